@@ -32,7 +32,7 @@ TIMED, SAMPLED = 20, 200  # the steps that are timed, and those that perf sample
 STAGES = [
     ("slopes", r"potential|kernel_lanes|kernel_machine"),
     ("arguments of lanes, forces", r"next_adds|ask_all|SafeSystem::add|ActingPair::force|FoundPair::add"),
-    ("finding the pairs, separations, roots", r"FramePairs::find|find_all|SafeSystem::prepare|pair_lists|cell_tiles|ring_box|fixed::roots"),
+    ("finding the pairs, separations, roots", r"FramePairs::find|find_batch|SafeSystem::prepare|pair_lists|cell_tiles|ring_box|fixed::roots"),
     ("additions", r"Course::run|Forces::add_all|rounds::"),
     ("the rest of the step", ""),
 ]

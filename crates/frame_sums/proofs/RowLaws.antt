@@ -1,14 +1,15 @@
 -- Interacting pairs in batches: the pairs found have the forces of all interacting pairs.
-use Rattle.std.proofs.Common.{◌≡◌, ℕ, suc, ◌+◌, ◌-◌, ◌^◌, ◌<◌, append-nil, cond, false, min, List, [], ◌∷◌, ◌++◌, length, map, filter, take, drop, ℤ, pos, Option, Some, None, arith, refl, ap, ap₂, sym, ◌∙◌, is_some, neg_ℤ, option_map, slice_get, slice_index, All, true≢false, take-add}
+use Rattle.std.proofs.Common.{◌≡◌, ℕ, suc, ◌+◌, ◌^◌, ◌<◌, ◌≤◌, append-nil, cond, false, min, List, [], ◌∷◌, ◌++◌, length, map, filter, take, drop, ℤ, pos, Option, Some, None, arith, refl, ap, ap₂, sym, ◌∙◌, is_some, neg_ℤ, option_map, slice_get, slice_index, All, true≢false, take-add, inl, inr}
+use Rattle.std.proofs.lemmas.Bool.{cases_lt}
 use Rattle.std.proofs.lemmas.List.Elements.{All-cons}
-use Rattle.std.proofs.lemmas.Option.{get_or_from_slice_get, slice_get_within}
-use Rattle.std.proofs.lemmas.List.{drop-map, get_or-map, length-drop, length-map, length-take, map-append, take-map, take_min}
+use Rattle.std.proofs.lemmas.Option.{get_or_from_slice_get, slice_get-map, slice_get_within}
+use Rattle.std.proofs.lemmas.List.{drop-map, get_or-map, length-append, length-drop, length-map, length-take, map-append, take-map}
 use Rattle.kernel_lanes.specs.Flats.{query_at}
 use Rattle.kernel_lanes.specs.Lanes.{IsServed}
 use Rattle.kernel_lanes.specs.declared.queries.Query.{Query}
 use Rattle.ring_box.specs.Acting.{ActingPair, Reach, acting_of, force_of}
 use Rattle.ring_box.specs.Distances.{distance_at, square_of}
-use Rattle.ring_box.specs.FoundPairs.{with_pair}
+use Rattle.ring_box.specs.FoundPairs.{FoundPairs, with_pair}
 use Rattle.ring_box.specs.declared.vectors.Place3.{Place3}
 use Rattle.ring_box.specs.declared.vectors.Vector.{Vector}
 use Rattle.ring_box.proofs.ActingLemmas.{halves, taken}
@@ -21,8 +22,9 @@ use Rattle.rounds.specs.declared.work.PairAdd.{PairAdd}
 use Rattle.ring_box.specs.Places.{places_of}
 use Rattle.integrator.specs.Frames.{Frame}
 use Rattle.integrator.specs.declared.systems.System.{System}
+use Rattle.frame_sums.proofs.ActingLaws.{few_act}
 use Rattle.frame_sums.specs.Rounds.{add_of, pair_add}
-use Rattle.frame_sums.specs.Rows.{AreNextFound, IsFound, IsSlope, add_found, query_of, found_of, reach_of}
+use Rattle.frame_sums.specs.Rows.{AreNextFound, IsFound, IsSlope, add_found, query_of, found_in, found_of, reach_of}
 use Rattle.potential.proofs.PotentialLaws.{minus_is}
 use Rattle.potential.specs.LaneKernels.{IsCodeValue}
 use Rattle.potential.specs.Potentials.{minus, potential_of, slope_at}
@@ -61,6 +63,11 @@ pub put_next : (d : Reach) (m : ℕ) (os : List (Option FoundPair)) (l : ℕ) (o
     → with_pair (record { reach = d; pairs = acting (take l os); measured = m }) o ≡ record { reach = d; pairs = acting (take (l + 1) os); measured = m }
 put_next d m os l None at = rw (acting_next os l None at, append-nil (acting (take l os))) refl
 put_next d m os l (Some f) at = rw (acting_next os l (Some f) at) refl
+
+-- a batch grows by at most one pair
+pub few_put : (f : FoundPairs) (o : Option FoundPair) → length (with_pair f o).pairs ≤ length f.pairs + 1
+few_put f None = omega arith
+few_put f (Some x) = omega (arith, length-append f.pairs (x ∷ []))
 
 -- no element has no image
 none_mapped : {X Y : Type 0} (f : X → Y) (o : Option X) → is_some o ≡ false → option_map f o ≡ None
@@ -143,20 +150,41 @@ module _ {A : Type 0} (s : System (SlopeKernel A) A) where
         acting = ap acting (sym (take-map F n ps)) ∙ (before ∙ ap (λ ys. acting ys ++ found) (take-map F k ps));
       }
 
-  -- the pairs found among the next 128 are those found from the number k to before n
-  pub part_found : (frame : Frame) (ps part : List (ℕ × ℕ)) (k n : ℕ) (found : List FoundPair) → k < length ps → part ≡ take 128 (drop k ps) → n ≡ min (length ps) (k + 128) → found ≡ acting (map (found_of s frame) part)
-      → AreNextFound s frame ps k found n
-  part_found frame ps part k n found start is next here =
+  -- ---- batches
+
+  abbrev unmeasured : List (Option FoundPair) → FoundPairs
+  unmeasured os = record { reach = reach_of s; pairs = acting os; measured = 0 }
+
+  -- a batch of the pairs found among the first l, and the next pair if it interacts
+  pub put_found : (frame : Frame) (ps : List (ℕ × ℕ)) (l : ℕ) (p : ℕ × ℕ) → slice_get ps l ≡ Some p
+      → with_pair (unmeasured (map (found_of s frame) (take l ps))) (found_of s frame p) ≡ unmeasured (map (found_of s frame) (take (l + 1) ps))
+  put_found frame ps l p there =
       let F = found_of s frame in
-      let rest = drop k ps in
-      let long : length rest ≡ length ps - k = length-drop k ps in
-      let size : length part ≡ min 128 (length rest) = ap length is ∙ length-take 128 rest in
-      let whole : take (length part) rest ≡ part = ap (λ m. take m rest) size ∙ (take_min 128 rest ∙ sym is) in
-      let end : n ≡ k + length part = omega arith in
-      let upto : take n ps ≡ take k ps ++ part = ap (λ m. take m ps) end ∙ (take-add k (length part) ps ∙ ap (λ qs. take k ps ++ qs) whole) in
+      ap (λ os. with_pair (unmeasured os) (F p)) (sym (take-map F l ps))
+      ∙ (put_next (reach_of s) 0 (map F ps) l (F p) (slice_get-map F ps l ∙ ap (option_map F) there)
+      ∙ ap unmeasured (take-map F (l + 1) ps))
+
+  -- if a batch of the first m pairs of a list is full, or those are all pairs, then m is at least 128 or their number
+  pub all_tried : (frame : Frame) (ps : List (ℕ × ℕ)) (long m : ℕ) (found : List FoundPair) → found ≡ found_in s frame (take m ps)
+      → (m < long → length found ≡ 128) → min 128 long ≤ m
+  all_tried frame ps long m found here full =
+      let F = found_of s frame in
+      let few : length found ≤ m = omega (arith, ap length here, few_act (map F (take m ps)), length-map (take m ps) F, length-take m ps) in
+      elim (cases_lt m long) [
+        | inl lt ↦ let filled : length found ≡ 128 = full lt in omega (arith, few, filled)
+        | inr ge ↦ omega (arith, ge)
+      ]
+
+  -- the pairs found among the first m from the number k on are those found from k to before k + m
+  pub part_found : (frame : Frame) (ps rest : List (ℕ × ℕ)) (k m : ℕ) (found : List FoundPair) → rest ≡ drop k ps → k < length ps → 0 < m → m ≤ length rest
+      → found ≡ found_in s frame (take m rest) → AreNextFound s frame ps k found (k + m)
+  part_found frame ps rest k m found is start some most here =
+      let F = found_of s frame in
+      let part = take m rest in
+      let upto : take (k + m) ps ≡ take k ps ++ part = take-add k m ps ∙ ap (λ qs. take k ps ++ take m qs) (sym is) in
       record {
-        onward = omega arith;
-        within = omega arith;
+        onward = omega (arith, some);
+        within = omega (arith, start, most, ap length is, length-drop k ps);
         acting =
             ap (λ qs. acting (map F qs)) upto
             ∙ (ap acting (map-append F (take k ps) part)

@@ -1,11 +1,12 @@
 //! The pairs of a frame, tile by tile, as the work of a round.
 //!
 //! A batch of up to 128 pairs is computed in stages, each for all pairs before the next. Interacting pairs are first
-//! stored contiguously (`FoundPairs`), without a branch to mispredict. Then come their lines and distances, their
-//! slopes in lanes (`run_lanes` for flat code, `run_paths` for code with jumps), and the forces to add. Estimates of
-//! separations and lengths in floating point, made for the distances, also serve the forces. If no pair interacts, no
-//! code runs; with one type of atoms, no type is looked up. The contract of a batch mentions only the plan
-//! (`AreNextActing`), so the sums are the same as pair by pair.
+//! stored contiguously (`FoundPairs`), without a branch to mispredict. The pairs of a kept list are tried until a batch
+//! is full, so only the last batch of a list may have fewer. Then come their lines and distances, their slopes in lanes
+//! (`run_lanes` for flat code, `run_paths` for code with jumps), and the forces to add. Estimates of separations and
+//! lengths in floating point, made for the distances, also serve the forces. If no pair interacts, no code runs; with
+//! one type of atoms, no type is looked up. The contract of a batch mentions only the plan (`AreNextActing`), so the
+//! sums are the same as pair by pair.
 
 ghost use Rattle.std.specs.Prelude.{◌≡◌, ◌<◌, ◌≤◌, length, map, All};
 ghost use Rattle.pair_lists.specs.PairLists.{IsPrepared, list_at, lists_of};
@@ -66,13 +67,14 @@ impl<'a, A: Allocator + Copy> FramePairs<'a, A> {
         let reach = self.system.reach();
         let lists = &self.system.lists;
         if lists.are_kept() {
-            self.system
-                .find_all(&reach, self.frame, lists.kept_from(tile, k), found);
-            return lists.pairs(tile).min(k.saturating_add(128));
+            let tried = self
+                .system
+                .find_batch(&reach, self.frame, lists.kept_from(tile, k), found);
+            return k + tried as u64;
         }
         let next = lists.near_from(self.frame, tile, k, near);
         self.system
-            .find_all(&reach, self.frame, near.as_slice(), found);
+            .find_batch(&reach, self.frame, near.as_slice(), found);
         next
     }
 }

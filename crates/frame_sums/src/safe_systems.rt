@@ -49,14 +49,13 @@ fn force_in(sums: &[i64], atom: usize) -> Vector<i128>
 }
 
 impl<A: Allocator + Copy> SafeSystem<A> {
-    ghost use Rattle.std.specs.Prelude.{◌≡◌, ◌*◌, ◌<◌, ◌≤◌, ◌^◌, length, map, take, IfErr, IfOk, IsTrue, OnOk};
+    ghost use Rattle.std.specs.Prelude.{◌≡◌, ◌*◌, ◌<◌, ◌≤◌, ◌^◌, [], length, map, take, IfErr, IfOk, IsTrue, OnOk};
     ghost use Rattle.cell_tiles.specs.Near.{IsPairOf};
     ghost use Rattle.integrator.specs.Frames.{moved_frame};
     ghost use Rattle.kernel_lanes.specs.Lanes.{IsServed};
     ghost use Rattle.ring_box.specs.Acting.{limit_of};
-    ghost use Rattle.rounds.specs.Tiles.{acting};
     ghost use Rattle.frame_sums.specs.Rounds.{add_of, forces_from};
-    ghost use Rattle.frame_sums.specs.Rows.{AreSlopes, IsFound, add_found, query_of, found_of, reach_of};
+    ghost use Rattle.frame_sums.specs.Rows.{AreSlopes, IsFound, add_found, query_of, found_in, reach_of};
     ghost use Rattle.frame_sums.specs.SafeSystems.{HasAtoms, IsSafeWith, safe_dynamics};
 
     /// A system whose code is accepted, with no pairs yet. `AllocError`: memory ran out.
@@ -123,32 +122,56 @@ impl<A: Allocator + Copy> SafeSystem<A> {
         Reach::new(system.frac, Fx::from_raw(0), system.core).limit()
     }
 
-    /// The interacting pairs among at most 128 pairs, with their geometry.
-    pub(crate) fn find_all(
-        &self,
-        reach: &Reach,
-        frame: &[Place3],
-        near: &[AtomPair],
-        found: &mut FoundPairs,
-    )
-        requires reach { reach.now ≡ reach_of self.now.system }
-        requires few { length near.now ≤ 128 }
+    /// Appends the first interacting pairs of a list to an empty batch, until the batch is full or the list ends. Returns
+    /// the number of pairs tried.
+    fn fill(&self, frame: &[Place3], near: &[AtomPair], found: &mut FoundPairs) -> usize
+        requires empty { found.old ≡ record { reach = reach_of self.now.system; pairs = []; measured = 0 } }
         requires pairs { All (IsPairOf (length frame.now)) (map (λ p. (p.low, p.high)) near.now) }
-        ensures value { found.new.pairs
-            ≡ acting (map (found_of self.now.system frame.now) (map (λ p. (p.low, p.high)) near.now)) }
-        ensures measured { found.new.measured ≡ length found.new.pairs }
-        ensures found { All (IsFound self.now.system (length frame.now)) found.new.pairs }
+        ensures tried { result ≤ length near.now }
+        ensures found { found.new ≡ record {
+          reach = reach_of self.now.system;
+          pairs = found_in self.now.system frame.now (take result (map (λ p. (p.low, p.high)) near.now));
+          measured = 0;
+        } }
+        ensures full { result < length near.now → length found.new.pairs ≡ 128 }
         ensures few { length found.new.pairs ≤ 128 }
     {
-        found.clear(reach);
         let ring = self.system.ring;
         for l in 0..near.len() {
+            if found.len() == 128 {
+                return l;
+            }
             let AtomPair { low, high } = near[l];
             let x = frame[low as usize];
             let y = frame[high as usize];
             found.put(&ring, low, high, x, y);
         }
+        near.len()
+    }
+
+    /// Finds the first interacting pairs of a list, with their geometry: a batch of 128, or all if there are fewer.
+    /// Returns the number of pairs tried: the rest of the list is the next batch's.
+    pub(crate) fn find_batch(
+        &self,
+        reach: &Reach,
+        frame: &[Place3],
+        near: &[AtomPair],
+        found: &mut FoundPairs,
+    ) -> usize
+        requires reach { reach.now ≡ reach_of self.now.system }
+        requires pairs { All (IsPairOf (length frame.now)) (map (λ p. (p.low, p.high)) near.now) }
+        ensures tried { result ≤ length near.now }
+        ensures value { found.new.pairs
+            ≡ found_in self.now.system frame.now (take result (map (λ p. (p.low, p.high)) near.now)) }
+        ensures full { result < length near.now → length found.new.pairs ≡ 128 }
+        ensures measured { found.new.measured ≡ length found.new.pairs }
+        ensures found { All (IsFound self.now.system (length frame.now)) found.new.pairs }
+        ensures few { length found.new.pairs ≤ 128 }
+    {
+        found.clear(reach);
+        let tried = self.fill(frame, near, found);
         found.measure();
+        tried
     }
 
     /// The query for a pair: its two types and its distance. If all atoms are `alike`, no atom's type is looked up.

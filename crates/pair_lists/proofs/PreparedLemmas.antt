@@ -1,7 +1,7 @@
 -- The pairs of a prepared frame: those of the cells' tiles, or those of lists that are kept.
-use Rattle.std.proofs.Common.{◌≡◌, ℕ, ◌+◌, ◌-◌, ◌<◌, min, true, false, Option, Some, List, [], length, take, drop, map, arith, inl, inr, refl, ap, sym, subst, ◌∙◌, if◌then◌else◌, IfSome, IsSomeAnd, IsTrue, Result, Ok, Err, OnOk, slice_get, slice_index_or, All}
-use Rattle.std.proofs.lemmas.Bool.{cases_lt, true≢false}
-use Rattle.std.proofs.lemmas.List.{drop-map, length-drop, length-map, take-map, take_all}
+use Rattle.std.proofs.Common.{◌≡◌, ℕ, ◌-◌, ◌<◌, true, false, Option, Some, List, [], length, take, drop, map, arith, refl, ap, sym, subst, ◌∙◌, if◌then◌else◌, IfSome, IsSomeAnd, IsTrue, Result, Ok, Err, OnOk, slice_get, slice_index_or, All}
+use Rattle.std.proofs.lemmas.Bool.{true≢false}
+use Rattle.std.proofs.lemmas.List.{drop-map, length-drop, take_all}
 use Rattle.ring_box.specs.Acting.{Reach}
 use Rattle.ring_box.specs.Cells.{NearAreNeighbours}
 use Rattle.ring_box.specs.Distances.{square_of}
@@ -107,22 +107,9 @@ kept_prepared p margin m frame is_margin is kept lists =
 
 -- ---- a part of a list
 
--- from the index k on, the elements before the end or before k + n are the first n
-first_of_rest : {X : Type 0} (n k : ℕ) (xs : List X) → k < length xs
-    → take (min (length xs) (k + n) - k) (drop k xs) ≡ take n (drop k xs)
-first_of_rest n k xs lt =
-    elim (cases_lt (k + n) (length xs)) [
-      | inl l ↦ ap (λ j. take j (drop k xs)) (omega arith)
-      | inr m ↦
-          take_all (min (length xs) (k + n) - k) (drop k xs) (omega (arith, length-drop k xs))
-          ∙ sym (take_all n (drop k xs) (omega (arith, length-drop k xs)))
-    ]
-
--- the first n pairs of a list from the index k on
-pub part_from : (pairs : List AtomPair) (ps : List (ℕ × ℕ)) (n k end : ℕ) → map numbers pairs ≡ ps → k < length ps
-    → end ≡ min (length pairs) (k + n) → map numbers (take (end - k) (drop k pairs)) ≡ take n (drop k ps)
-part_from pairs ps n k end is lt e =
-    ap (λ j. map numbers (take (j - k) (drop k pairs))) e
-    ∙ (ap (map numbers) (first_of_rest n k pairs (omega (arith, length-map pairs numbers, ap length is)))
-    ∙ (sym (take-map numbers n (drop k pairs))
-    ∙ (ap (take n) (sym (drop-map numbers k pairs)) ∙ ap (λ qs. take n (drop k qs)) is)))
+-- the pairs of a list from the index k on
+pub rest_from : (pairs : List AtomPair) (ps : List (ℕ × ℕ)) (k end : ℕ) → map numbers pairs ≡ ps → end ≡ length pairs
+    → map numbers (take (end - k) (drop k pairs)) ≡ drop k ps
+rest_from pairs ps k end is e =
+    ap (map numbers) (take_all (end - k) (drop k pairs) (omega (arith, e, length-drop k pairs)))
+    ∙ (sym (drop-map numbers k pairs) ∙ ap (drop k) is)

@@ -10,9 +10,10 @@ use crate::listed_pairs::ListedPairs;
 use cell_tiles::{Cells, FrameInBox, NearPairs, Tile, Tiles};
 use std::alloc::{AllocError, Allocator};
 
-// The fewest pairs of a list, except for the last. Tiles with fewer pairs share a list, so that no empty tile is visited;
-// a list of tiles that are far apart would cost more in the processor's cache than it saves.
-const FEWEST: usize = 32;
+// The fewest pairs of a list, except for the last. Tiles with fewer pairs share a list, so that no empty tile is visited
+// and most batches are full. A worker claims a list as a whole: with much longer lists, the workers of a small system
+// would wait for the last.
+const FEWEST: usize = 256;
 
 // Appends the pairs of a tile that may interact.
 fn list_tile<A: Allocator + Copy>(

@@ -4,7 +4,7 @@
 //! too. If atoms move farther than half the margin from frame to frame, or if there is one frame only, no list is made,
 //! and each tile's pairs are found in the cells.
 
-ghost use Rattle.std.specs.Prelude.{◌≡◌, ◌<◌, ◌≤◌, ◌*◌, ◌^◌, ◌≤ℤ◌, ◌<ℤ◌, pos, true, false, drop, length, map, slice_get, take, Some, IfOk, IsTrue, OnOk, All};
+ghost use Rattle.std.specs.Prelude.{◌≡◌, ◌<◌, ◌≤◌, ◌*◌, ◌^◌, ◌≤ℤ◌, ◌<ℤ◌, pos, true, false, drop, length, map, slice_get, Some, IfOk, IsTrue, OnOk, All};
 ghost use Rattle.fixed.specs.Fractions.{bits_of};
 ghost use Rattle.ring_box.specs.Cells.{has_room};
 ghost use Rattle.cell_tiles.specs.Near.{AreNear, IsPairOf};
@@ -227,16 +227,17 @@ impl<A: Allocator + Copy> PairLists<A> {
         }
     }
 
-    /// The pairs of a kept list from the pair `k` on, at most 128.
+    /// The pairs of a kept list from the pair `k` on.
     pub fn kept_from(&self, tile: u64, k: u64) -> &[AtomPair]
         requires kept { self.now.kept ≡ true }
         requires tile { tile < length (lists_of self.now) }
         requires start { k < length (list_at self.now tile) }
-        ensures pairs { map (λ p. (p.low, p.high)) result.now ≡ take 128 (drop k (list_at self.now tile)) }
+        ensures pairs { map (λ p. (p.low, p.high)) result.now ≡ drop k (list_at self.now tile) }
+        ensures few { length (list_at self.now tile) < 2 ^ 64 }
     {
         let list = self.lists.list(tile);
+        let end = list.len();
         let start = k as usize;
-        let end = list.len().min(start + 128);
         &list[start..end]
     }
 
