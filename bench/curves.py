@@ -126,7 +126,7 @@ class Column:
 
 
 class Table:
-    """The table of a pair of types: the distances of its rows in units, and its columns."""
+    """The table of a pair of types, the first if it has two: the distances of its rows in units, and its columns."""
 
     def __init__(self, block, job, most):
         lines = block.strip().splitlines()

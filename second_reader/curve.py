@@ -112,21 +112,52 @@ class Table:
             words.append(f"({without} row{'s' * (without > 1)} without)")
         return " ".join(words)
 
-    def text(self, columns):
-        """The text of the table."""
-        head = " ".join(["# r/nm", *(f"{UNITS[column]} {ERRORS[column]}" for column in columns)])
+    def body(self, columns):
+        """The lines of the rows, of missing bounds and of the greatest bounds."""
         last = "# greatest " + ", ".join(self.greatest(column) for column in columns)
-        rows = [self.line(row, columns) for row in self.rows]
-        lines = ["# " + " ".join(self.names), head, *rows, *self.lacking(columns), last]
-        return "".join(f"{line}\n" for line in lines)
+        return lines_of([*(self.line(row, columns) for row in self.rows), *self.lacking(columns), last])
+
+
+def lines_of(lines):
+    """The text of these lines."""
+    return "".join(f"{line}\n" for line in lines)
+
+
+def table_text(names, columns, body):
+    """The text of a table with the names of these pairs of types."""
+    head = " ".join(["# r/nm", *(f"{UNITS[column]} {ERRORS[column]}" for column in columns)])
+    return lines_of([*("# " + " ".join(pair) for pair in names), head]) + body
+
+
+def texts_of_both(first, second, columns):
+    """The texts of the tables of two types in both orders: one text if both tables have the same body."""
+    bodies = [it.body(columns) for it in (first, second)]
+    if bodies[0] == bodies[1]:
+        return [table_text([first.names, second.names], columns, bodies[0])]
+    return [table_text([it.names], columns, body) for it, body in zip((first, second), bodies)]
 
 
 def curve(text, points=100, columns=(ENERGY, SLOPE), names=None):
     """The text that `pairmd curve` prints for a job's text."""
     job, tree = job_says(text)
     formula = Formula(bits_of(job.frac), tree)
-    pairs = [(a, b) for a in job.types for b in job.types if names is None or [a.name, b.name] == names]
-    return "\n\n".join(Table(job, tree, formula, a, b, points).text(columns) for a, b in pairs)
+    named = {it.name: it for it in job.types}
+
+    def table(first, second):
+        return Table(job, tree, formula, first, second, points)
+
+    def alone(first, second):
+        it = table(first, second)
+        return table_text([it.names], columns, it.body(columns))
+
+    if names is not None:
+        return alone(*(named[name] for name in names))
+    texts = []
+    for number, first in enumerate(job.types):
+        texts.append(alone(first, first))
+        for second in job.types[number + 1 :]:
+            texts += texts_of_both(table(first, second), table(second, first), columns)
+    return "\n\n".join(texts)
 
 
 def arguments(words):

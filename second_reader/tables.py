@@ -4,8 +4,8 @@
   tables.py PROGRAM [COUNT]     200 random formulas by default
 
 The jobs are those of examples/, and random ones with 24, 32 or 40 fraction bits. A random job has two types with a
-parameter each, two globals, and a formula with all operators and functions; few rows of it are compared. Jobs that the
-program rejects, or doesn't decide within a minute, don't count. The exit status is 1 if a table differs.
+parameter each, two globals, and a formula with all operators and functions; few rows of it are compared, of one pair of
+types or of all. Jobs that the program rejects, or doesn't decide within a minute, don't count. The exit status is 1 if a table differs.
 """
 import random
 import subprocess
@@ -52,7 +52,7 @@ class Draft:
             f"type A 1 {values[2]}\ntype B 1 {values[3]}\n"
         )
         self.points = self.draw.choice((1, 2, 3))
-        self.types = [self.draw.choice("AB"), self.draw.choice("AB")]
+        self.types = self.draw.choice((["--types", self.draw.choice("AB"), self.draw.choice("AB")], []))
         self.options = self.draw.choice(COLUMNS)
 
     def formula(self, forms, level):
@@ -69,7 +69,7 @@ class Draft:
 
     def words(self):
         """The options of `curve`."""
-        return ["--points", str(self.points), *self.options, "--types", *self.types]
+        return ["--points", str(self.points), *self.options, *self.types]
 
     def own(self):
         """The table of the second reading."""

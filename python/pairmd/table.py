@@ -297,25 +297,28 @@ class Curve:
 
 
 def read_curves(source: Source) -> Iterator[Curve]:
-    """Yields the tables of `pairmd curve` (a path, an open file, or lines). Raises FormatError."""
+    """Yields the tables of `pairmd curve` (a path, an open file, or lines): of a table with the names of two pairs of types
+    one for each pair. Raises FormatError.
+    """
     with Lines(source) as lines:
-        curve: Curve | None = None
+        pairs: list[tuple[str, str]] = []
+        rows: list[CurveRow] = []
         columns: list[str] = []
         while (line := lines.take()) is not None:
             words = line.split()
             if words[:1] == ["#"] and len(words) == 3:
-                if curve:
-                    yield curve
-                curve = Curve((words[1], words[2]), [])
+                if columns:
+                    yield from (Curve(pair, list(rows)) for pair in pairs)
+                    pairs, rows, columns = [], [], []
+                pairs.append((words[1], words[2]))
             elif words[:2] == ["#", "r/nm"]:
                 columns = [CURVE_COLUMNS.get(word, "") for word in words[1:]]
             elif words and words[0] != "#":
                 words = words[: words.index("#")] if "#" in words else words
-                if curve is None or len(words) != len(columns) or "" in columns:
+                if not pairs or len(words) != len(columns) or "" in columns:
                     raise lines.error("expected a row of the columns")
-                curve.rows.append(curve_row(dict(zip(columns, words)), lines))
-        if curve:
-            yield curve
+                rows.append(curve_row(dict(zip(columns, words)), lines))
+        yield from (Curve(pair, list(rows)) for pair in pairs)
 
 
 def curve_row(words: dict[str, str], lines: Lines) -> CurveRow:

@@ -1,5 +1,5 @@
 -- Bodies of tables: one more row, and the text of all.
-use Rattle.std.proofs.Common.{◌≡◌, ◌≤◌, ℕ, ◌∙◌, List, [], ◌∷◌, ◌++◌, length, flat_map, None, refl, subst, sym, ap, append_assoc, append-nil}
+use Rattle.std.proofs.Common.{◌≡◌, ℕ, ◌∙◌, List, [], ◌∷◌, ◌++◌, flat_map, None, subst, sym, ap, append_assoc, append-nil}
 use Rattle.std.proofs.lemmas.List.{flat_map_more}
 use Rattle.fixed.specs.Fractions.{bits_of}
 use Rattle.curve_lines.specs.Bodies.{BodyView, HasRows, IsBodyText}
@@ -8,7 +8,6 @@ use Rattle.curve_lines.specs.SoFar.{with_row}
 use Rattle.curve_lines.specs.Summaries.{IsLastLine}
 use Rattle.curve_lines.specs.declared.columns.CurveColumns.{CurveColumns}
 use Rattle.curve_lines.specs.declared.rows.Row.{Row}
-use Rattle.curve_lines.specs.declared.summaries.Summary.{Summary}
 use Rattle.curve_lines.proofs.LineLaws.{joined}
 use Rattle.curve_lines.proofs.SummaryLaws.{more_summary, no_summary}
 
@@ -46,27 +45,20 @@ one_more b c row frac columns put lacking e s rows has =
     }
 
 -- the text of a body, from the texts after each of its parts
-pub body_text : (b : BodyView) (t0 t1 t2 t3 lines missing : List ℕ) → t1 ≡ t0 ++ lines → lines ≡ b.lines → t2 ≡ t1 ++ missing
-    → missing ≡ b.missing → (last : List ℕ) × IsLastLine (bits_of b.frac) b.columns b.energy b.slope last × (t3 ≡ t2 ++ last)
-    → (rows : List Row) → HasRows b rows
-    → (body : List ℕ) × IsBodyText (bits_of b.frac) b.columns rows body × (t3 ≡ t0 ++ body)
-body_text b t0 t1 t2 t3 lines missing put lines_are lacking missing_are last rows has =
+pub body_text : (b : BodyView) (t0 t1 t2 missing : List ℕ) → t0 ≡ b.lines → t1 ≡ t0 ++ missing → missing ≡ b.missing
+    → (last : List ℕ) × IsLastLine (bits_of b.frac) b.columns b.energy b.slope last × (t2 ≡ t1 ++ last)
+    → (rows : List Row) → HasRows b rows → IsBodyText (bits_of b.frac) b.columns rows t2
+body_text b t0 t1 t2 missing lines_are lacking missing_are last rows has =
     let lines_of = missing_lines (bits_of b.frac) b.columns in
     let without = flat_map lines_of rows in
-    let end = without ++ last.0 in
-    let missing_is : missing ≡ without = missing_are ∙ has.missing in
-    let t2_is : t3 ≡ t1 ++ end = joined t1 t2 t3 without last.0 (lacking ∙ ap (λ m. t1 ++ m) missing_is) last.2 in (
-      b.lines ++ end,
-      record {
-        lines = b.lines;
-        energy = b.energy;
-        slope = b.slope;
-        last = last.0;
-        are_lines = has.lines;
-        of_energy = has.energy;
-        of_slope = has.slope;
-        is_last = last.1;
-        is = refl;
-      },
-      joined t0 t1 t3 b.lines end (put ∙ ap (λ l. t0 ++ l) lines_are) t2_is,
-    )
+    let missing_is : missing ≡ without = missing_are ∙ has.missing in record {
+      lines = b.lines;
+      energy = b.energy;
+      slope = b.slope;
+      last = last.0;
+      are_lines = has.lines;
+      of_energy = has.energy;
+      of_slope = has.slope;
+      is_last = last.1;
+      is = joined b.lines t1 t2 without last.0 (lacking ∙ ap (λ t. t ++ missing) lines_are ∙ ap (λ m. b.lines ++ m) missing_is) last.2;
+    }

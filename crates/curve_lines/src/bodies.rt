@@ -1,5 +1,5 @@
 //! Bodies of tables: rows, errors without a bound, and the greatest bounds.
-ghost use Rattle.std.specs.Prelude.{◌≡◌, ◌∷◌, [], ◌<◌, ◌-◌, ◌^◌, ◌++◌, ℕ, List, IfOk, length};
+ghost use Rattle.std.specs.Prelude.{◌≡◌, ◌∷◌, [], ◌<◌, ◌-◌, ◌^◌, ◌++◌, List, IfOk, length};
 ghost use Rattle.fixed.specs.Fractions.{bits_of};
 ghost use Rattle.curve_lines.specs.Bodies.{HasRows, IsBodyText};
 
@@ -59,13 +59,22 @@ impl<A: Allocator + Copy> Body<A> {
         put_row(&mut self.lines, self.frac, self.columns, row)
     }
 
-    /// Appends the text of the body. Returns `AllocError` if memory ran out.
-    pub fn put_to(&self, text: &mut Vec<u8, A>) -> Result<(), AllocError>
-        ensures { (rows : List Row) → HasRows self.now rows → IfOk result (λ _. (body : List ℕ)
-            × IsBodyText (bits_of self.now.frac) self.now.columns rows body × (text.new.items ≡ text.old.items ++ body)) }
+    /// The text of the body, in the memory that holds the lines of the rows. Returns `AllocError` if memory ran out.
+    pub fn into_text(self) -> Result<Vec<u8, A>, AllocError>
+        ensures { (rows : List Row) → HasRows self rows → IfOk result (λ text.
+            IsBodyText (bits_of self.frac) self.columns rows text.items) }
     {
-        text.extend_from_slice(&self.lines)?;
-        text.extend_from_slice(&self.missing)?;
-        put_last(text, self.frac, self.columns, self.energy, self.slope)
+        let Body {
+            frac,
+            columns,
+            lines,
+            missing,
+            energy,
+            slope,
+        } = self;
+        let mut text = lines;
+        text.extend_from_slice(&missing)?;
+        put_last(&mut text, frac, columns, energy, slope)?;
+        Ok(text)
     }
 }

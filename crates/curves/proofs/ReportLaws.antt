@@ -1,5 +1,6 @@
 -- The parts that are reported before a failure.
-use Rattle.std.proofs.Common.{◌≡◌, ℕ, ◌+◌, ◌*◌, ◌<◌, ◌≤◌, length, Option, None, Some, Result, Ok, Err, refl, arith, inl, inr, IfErr, OnOk}
+use Rattle.std.proofs.Common.{◌≡◌, ◌∙◌, ℕ, ◌+◌, ◌-◌, ◌*◌, ◌<◌, ◌≤◌, length, Option, None, Some, Result, Ok, Err, refl, sym, subst, ap, arith, inl, inr, IfErr, OnOk}
+use Rattle.std.proofs.Math.Nat.{add-mul, mul-add}
 use Rattle.std.proofs.lemmas.Nat.{mul-le}
 use Rattle.fallible.specs.Failures.{IfRefused}
 use Rattle.fallible.specs.declared.failure.Failure.{Failure}
@@ -51,9 +52,55 @@ stopped_few j plan (Refused f) n (inl h) = omega (arith, few (slices_of j) n (Re
 stopped_few j plan (Refused f) n (inr h) = let count = h.count in omega (arith, few (slices_of j) h.more (Refused f) h.after, count)
 stopped_few j plan Memory n h = h
 
--- the rows of some tables, and some rows of the next
-pub some_rows : (table n tables rows : ℕ) → table < tables → n ≤ rows → table * rows + n ≤ tables * rows
-some_rows table n tables rows lt le = omega (arith, le, mul-le (table + 1) rows tables rows (omega (arith, lt)) (omega arith))
+-- The rows of some tables, and some rows of the next two, are at most those of all tables.
+pub some_rows : (tables more all rows n : ℕ) → tables + more ≤ all → n ≤ more * rows → tables * rows + n ≤ all * rows
+some_rows tables more all rows n lt le =
+    let sum : (tables + more) * rows ≡ tables * rows + more * rows = add-mul tables more rows in
+    let whole : (tables + more) * rows ≤ all * rows = mul-le (tables + more) rows all rows lt (omega arith) in
+    omega (arith, le, sum, whole)
+
+-- the tables of the types before a, of all types, if each pair of types has one
+abbrev pub tables_before : (types a : ℕ) → ℕ
+tables_before types a = types * types - (types - a) * (types - a)
+
+-- the rows of the table of a type with itself are the first of the type
+pub first_of_type : (a rows : ℕ) → rows ≡ (2 * (a + 1 - a) - 1) * rows
+first_of_type a rows = let one : 2 * (a + 1 - a) - 1 ≡ 1 = omega arith in rw one (omega arith)
+
+-- the rows of the tables of both pairs of two types, after those of earlier types
+pub more_of_type : (a b rows : ℕ) → a < b → (2 * (b - a) - 1) * rows + 2 * rows ≡ (2 * (b + 1 - a) - 1) * rows
+more_of_type a b rows before =
+    let count : 2 * (b + 1 - a) - 1 ≡ (2 * (b - a) - 1) + 2 = omega (arith, before) in
+    rw count (sym (add-mul (2 * (b - a) - 1) 2 rows))
+
+square : (m : ℕ) → (m + 1) * (m + 1) ≡ m * m + (2 * m + 1)
+square m = add-mul m 1 (m + 1) ∙ omega (arith, mul-add m m 1)
+
+-- the tables of a type, after those of the types before it
+pub more_before : (types a : ℕ) → a < types → tables_before types a + (2 * (types - a) - 1) ≡ tables_before types (a + 1)
+more_before types a within =
+    let rest : types - a ≡ types - (a + 1) + 1 = omega (arith, within) in
+    let squared : (types - a) * (types - a) ≡ (types - (a + 1)) * (types - (a + 1)) + (2 * (types - (a + 1)) + 1) =
+    subst (λ n. n * n ≡ (types - (a + 1)) * (types - (a + 1)) + (2 * (types - (a + 1)) + 1)) (sym rest) (square (types - (a + 1))) in
+    let most : (types - a) * (types - a) ≤ types * types = mul-le (types - a) (types - a) types types (omega arith) (omega arith) in
+    omega (arith, within, rest, squared, most)
+
+-- the rows of a type's tables, after those of the types before it
+pub rows_before : (types a rows : ℕ) → a < types
+    → tables_before types a * rows + (2 * (types - a) - 1) * rows ≡ tables_before types (a + 1) * rows
+rows_before types a rows within =
+    sym (add-mul (tables_before types a) (2 * (types - a) - 1) rows) ∙ ap (λ n. n * rows) (more_before types a within)
+
+-- at the end all tables are there
+pub all_before : (types a : ℕ) → a ≡ types → tables_before types a ≡ types * types
+all_before types a is =
+    let none : types - a ≡ 0 = omega (arith, is) in
+    let zero : (types - a) * (types - a) ≡ 0 = rw none refl in
+    omega (arith, zero)
+
+-- never more than all
+pub few_before : (types a : ℕ) → a < types → tables_before types a + (2 * (types - a) - 1) ≤ types * types
+few_before types a within = let same = more_before types a within in omega (arith, same)
 
 -- the rows of one table
 pub one_counted : (j : JobValue) (pair : Option (ℕ × ℕ)) (p : ℕ × ℕ) (rows : ℕ) → pair ≡ Some p → rows ≡ table_count j pair * rows

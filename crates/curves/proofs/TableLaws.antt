@@ -1,5 +1,5 @@
 -- Values of a job's potential at a distance, its refusals, the inputs of a pair of types, and the texts of tables.
-use Rattle.std.proofs.Common.{◌≡◌, ◌∙◌, ℕ, ◌<◌, ◌≤◌, ◌*◌, ◌/◌, ◌%◌, ◌+◌, List, [], ◌∷◌, ◌++◌, length, map, subst, sym, refl, add-one, arith, ap, inr, ℤ, IfOk, if◌then◌else◌, is_ok, None, Some, Result, Ok, Err, zero, suc, IsTrue, codes, slice_index_or, append_assoc}
+use Rattle.std.proofs.Common.{◌≡◌, ◌≢◌, ◌∙◌, ℕ, ◌<◌, ◌≤◌, ◌*◌, ◌/◌, ◌+◌, List, [], ◌∷◌, ◌++◌, length, map, subst, sym, refl, add-one, arith, ap, inr, ℤ, IfOk, if◌then◌else◌, is_ok, None, Some, Result, Ok, Err, zero, suc, IsTrue, slice_index_or}
 use Rattle.std.proofs.lemmas.List.{length-map}
 use Rattle.std.proofs.lemmas.Nat.{mul-le}
 use Rattle.std.proofs.Math.Nat.{div-le_of_le-mul}
@@ -7,7 +7,7 @@ use Rattle.derivative.specs.Slope.{slope_of}
 use Rattle.energy_program.specs.Programs.{Trees, input_count_of, trees_of}
 use Rattle.energy_program.specs.Tree.{Tree, is_scoped, substituted, tree_of}
 use Rattle.energy_program.specs.Value.{value_of}
-use Rattle.fallible.specs.Failures.{IfRefused, refused_as}
+use Rattle.fallible.specs.Failures.{IfRefused}
 use Rattle.fallible.specs.declared.failure.Failure.{Failure}
 use Rattle.fallible.specs.declared.failure.Failure.TheVariants.{Refused, Memory}
 use Rattle.fixed.specs.Fractions.{bits_of}
@@ -19,22 +19,18 @@ use Rattle.kernel_code.specs.Tables.{inputs_of}
 use Rattle.kernel_lanes.specs.Lanes.{IsServed}
 use Rattle.kernel_lanes.specs.declared.queries.Query.{Query}
 use Rattle.potential.specs.CodeSlopes.{GivesSlope}
-use Rattle.potential.specs.Energies.{Energy, energy_of}
 use Rattle.potential.specs.EnergyKernels.{GivesEnergy, HasNoEnergyKernel}
 use Rattle.potential.specs.LaneKernels.{IsCodeValue}
 use Rattle.potential.specs.Tables.{global_values, name_of_type, no_type, numbers_of, table_of, type_rows}
-use Rattle.potential.specs.Verdicts.{HasNoSlopeKernel, IsRefused, IsSlopeKernel, IsUnder}
+use Rattle.potential.specs.Verdicts.{IsSlopeKernel, IsUnder}
 use Rattle.potential.specs.declared.faults.EnergyFault.{EnergyFault}
-use Rattle.potential.specs.declared.faults.EnergyFault.TheVariants as energy
 use Rattle.verifier.specs.Kernels.{Kernel}
 use Rattle.curves.specs.Potentials.{IsPotentialOf}
 use Rattle.curve_lines.specs.Bodies.{BodyView, IsBodyText}
-use Rattle.curve_lines.specs.declared.columns.CurveColumns.{CurveColumns}
-use Rattle.curve_lines.specs.declared.rows.Row.{Row}
 use Rattle.curve_lines.proofs.LineLaws.{joined}
 use Rattle.curves.specs.Slices.{AreBoundsOver, BoundsView}
 use Rattle.curves.specs.SoFar.{HasBody}
-use Rattle.curves.specs.Tables.{AreRows, AreTables, AreTablesOf, HasNoCurve, IsCurve, IsRow, IsTable, columns_text, constants_of, distance_of, distances_of, names_text, others_of, separator}
+use Rattle.curves.specs.Tables.{AreBothTables, AreRows, AreTables, AreTablesOf, HasNoCurve, IsCurve, IsRow, IsTable, IsTableBody, between_tables, columns_text, constants_of, distance_of, distances_of, names_text, others_of, pair_line, separator, table_text}
 use Rattle.curves.specs.declared.plans.CurvePlan.{CurvePlan}
 use Rattle.curves.specs.declared.potentials.Potential.{Potential}
 
@@ -116,54 +112,103 @@ is_row j program points a b i query distance energy slope others bounds same at 
 
 -- ---- tables
 
--- a table's text, from the texts after each of its parts
-pub table_text : (j : JobValue) (plan : CurvePlan) (a b bits : ℕ) (columns : CurveColumns) (t0 t1 t2 t3 first second head : List ℕ)
-    → t0 ≡ [] → t1 ≡ t0 ++ names_text first second → first ≡ name_of_type j a → second ≡ name_of_type j b
-    → t2 ≡ t1 ++ head → head ≡ columns_text plan.columns → (rows : List Row)
-    → (part : List ℕ) × IsBodyText bits columns rows part × (t3 ≡ t2 ++ part)
-    → (part : List ℕ) × IsBodyText bits columns rows part
-    × (t3 ≡ names_text (name_of_type j a) (name_of_type j b) ++ (columns_text plan.columns ++ part))
-table_text j plan a b bits columns t0 t1 t2 t3 first second head none named one two headed heads rows part =
-    let names = names_text (name_of_type j a) (name_of_type j b) in
-    let t1_is : t1 ≡ names = named ∙ ap (λ t. t ++ names_text first second) none
-    ∙ ap (λ n. names_text n second) one ∙ ap (names_text (name_of_type j a)) two in
-    (part.0, part.1, joined names t2 t3 (columns_text plan.columns) part.0 (headed ∙ ap (λ t. t ++ head) t1_is ∙ ap (λ t. names ++ t) heads) part.2)
+-- the line of the names of the types with two numbers
+pub pair_put : {X E : Type 0} (r : Result X E) (j : JobValue) (a b : ℕ) (t0 t1 first second : List ℕ)
+    → first ≡ name_of_type j a → second ≡ name_of_type j b → IfOk r (λ _. t1 ≡ t0 ++ names_text first second)
+    → IfOk r (λ _. t1 ≡ t0 ++ pair_line j a b)
+pair_put r j a b t0 t1 first second one two put =
+    subst (λ n. IfOk r (λ _. t1 ≡ t0 ++ names_text (name_of_type j a) n)) two
+    (subst (λ n. IfOk r (λ _. t1 ≡ t0 ++ names_text n second)) one put)
 
--- a text after a separator and a table, if both are appended
-pub separated : {X E : Type 0} (r : Result X E) (t0 t1 t2 before table : List ℕ) → t1 ≡ t0 ++ before
-    → t2 ≡ (if is_ok r then t1 ++ table else t1) → IfOk r (λ _. t2 ≡ t0 ++ (before ++ table))
-separated (Ok x) t0 t1 t2 before table first second = joined t0 t1 t2 before table first second
-separated (Err e) t0 t1 t2 before table first second = tt
+-- a table's text, from the texts after each of its parts
+pub table_put : {X E : Type 0} (r : Result X E) (j : JobValue) (plan : CurvePlan) (a b : ℕ) (t0 t1 t2 t3 head body : List ℕ)
+    → t1 ≡ t0 ++ pair_line j a b → t2 ≡ t1 ++ head → head ≡ columns_text plan.columns
+    → t3 ≡ (if is_ok r then t2 ++ body else t2) → IfOk r (λ _. t3 ≡ t0 ++ table_text j plan a b body)
+table_put (Ok x) j plan a b t0 t1 t2 t3 head body named headed heads last =
+    let t3_is : t3 ≡ t1 ++ (columns_text plan.columns ++ body) =
+    joined t1 t2 t3 (columns_text plan.columns) body (headed ∙ ap (λ h. t1 ++ h) heads) last in
+    joined t0 t1 t3 (pair_line j a b) (columns_text plan.columns ++ body) named t3_is
+table_put (Err e) j plan a b t0 t1 t2 t3 head body named headed heads last = tt
 
 module _ (j : JobValue) (program : Trees) (plan : CurvePlan) where
-  -- the parts of a table
-  pub is_table : (a b c d : ℕ) (body : BodyView) (text : List ℕ) (is : HasBody j program plan c d body) → c ≡ a → d ≡ b
-      → (part : List ℕ) × IsBodyText (bits_of body.frac) body.columns is.rows part
-      × (text ≡ names_text (name_of_type j a) (name_of_type j b) ++ (columns_text plan.columns ++ part))
-      → IsTable j program plan a b text
-  is_table a b c d body text is ca db part =
+  -- the body of a table, from its rows
+  pub is_body : (a b c d : ℕ) (body : BodyView) (text : List ℕ) (is : HasBody j program plan c d body) → c ≡ a → d ≡ b
+      → IsBodyText (bits_of body.frac) body.columns is.rows text → IsTableBody j program plan a b text
+  is_body a b c d body text is ca db lines =
       record {
         rows = is.rows;
         are_rows = subst (λ x. AreRows j program plan.points x b is.rows) ca
             (subst (λ x. AreRows j program plan.points c x is.rows) db is.are_rows);
-        body = part.0;
-        is_body = subst (λ f. IsBodyText (bits_of f) plan.columns is.rows part.0) is.frac
-            (subst (λ x. IsBodyText (bits_of body.frac) x is.rows part.0) is.columns part.1);
-        is = part.2;
+        is_body = subst (λ f. IsBodyText (bits_of f) plan.columns is.rows text) is.frac
+            (subst (λ x. IsBodyText (bits_of body.frac) x is.rows text) is.columns lines);
       }
 
-  -- no tables yet
-  pub no_tables : (text : List ℕ) → text ≡ [] → AreTables j program plan 0 text
-  no_tables text is = subst (AreTables j program plan 0) (sym is) AreTables.none
+  -- the table of a pair of types, from its body
+  pub one_put : {X E : Type 0} (r : Result X E) (a b : ℕ) (t0 t1 body body' : List ℕ) → IsTableBody j program plan a b body
+      → body' ≡ body → IfOk r (λ _. t1 ≡ t0 ++ table_text j plan a b body')
+      → IfOk r (λ _. (table : List ℕ) × IsTable j program plan a b table × (t1 ≡ t0 ++ table))
+  one_put (Ok x) a b t0 t1 body body' is same put =
+      (table_text j plan a b body, record { body = body; is_body = is; is = refl }, put ∙ ap (λ t. t0 ++ table_text j plan a b t) same)
+  one_put (Err e) a b t0 t1 body body' is same put = tt
 
-  -- one more table
-  pub more_tables : (p types : ℕ) (text table table' t2 : List ℕ) → types ≡ length j.types → AreTables j program plan p text
-      → IsTable j program plan (p / types) (p % types) table → table' ≡ table → t2 ≡ text ++ (separator p ++ table')
-      → AreTables j program plan (p + 1) t2
-  more_tables p types text table table' t2 count so_far is same joined =
-      let this = subst (λ n. IsTable j program plan (p / n) (p % n) table) count is in
-      let whole : t2 ≡ text ++ (separator p ++ table) = joined ∙ ap (λ t. text ++ (separator p ++ t)) same in
-      rw (add-one p) (rw whole (AreTables.more so_far this))
+  -- one table of both pairs of two types
+  pub both_in_one : {X E : Type 0} (r : Result X E) (a b : ℕ) (t0 t1 t2 first second : List ℕ) → IsTableBody j program plan a b first
+      → IsTableBody j program plan b a second → first ≡ second → t1 ≡ t0 ++ pair_line j a b
+      → IfOk r (λ _. t2 ≡ t1 ++ table_text j plan b a first)
+      → IfOk r (λ _. (tables : List ℕ) × AreBothTables j program plan a b tables × (t2 ≡ t0 ++ tables))
+  both_in_one (Ok x) a b t0 t1 t2 first second one two same named put = (
+    pair_line j a b ++ table_text j plan b a first,
+    AreBothTables.one one (subst (IsTableBody j program plan b a) (sym same) two),
+    joined t0 t1 t2 (pair_line j a b) (table_text j plan b a first) named put,
+  )
+  both_in_one (Err e) a b t0 t1 t2 first second one two same named put = tt
+
+  -- a table for each of both pairs of two types
+  pub both_in_two : {X E : Type 0} (r : Result X E) (a b : ℕ) (t0 t1 t2 t3 first second between : List ℕ) → IsTableBody j program plan a b first
+      → IsTableBody j program plan b a second → first ≢ second → t1 ≡ t0 ++ table_text j plan a b first → t2 ≡ t1 ++ between
+      → between ≡ between_tables → IfOk r (λ _. t3 ≡ t2 ++ table_text j plan b a second)
+      → IfOk r (λ _. (tables : List ℕ) × AreBothTables j program plan a b tables × (t3 ≡ t0 ++ tables))
+  both_in_two (Ok x) a b t0 t1 t2 t3 first second between one two differ put apart blank last =
+      let rest = table_text j plan b a second in
+      let t3_is : t3 ≡ t1 ++ (between_tables ++ rest) = joined t1 t2 t3 between_tables rest (apart ∙ ap (λ t. t1 ++ t) blank) last in (
+        table_text j plan a b first ++ (between_tables ++ rest),
+        AreBothTables.two one two differ,
+        joined t0 t1 t3 (table_text j plan a b first) (between_tables ++ rest) put t3_is,
+      )
+  both_in_two (Err e) a b t0 t1 t2 t3 first second between one two differ put apart blank last = tt
+
+  -- the table of a pair of types is the whole text
+  pub table_alone : (a b : ℕ) (t0 t1 : List ℕ) → t0 ≡ [] → (table : List ℕ) × IsTable j program plan a b table × (t1 ≡ t0 ++ table)
+      → IsTable j program plan a b t1
+  table_alone a b t0 t1 none (table, is, put) =
+      subst (IsTable j program plan a b) (sym (put ∙ ap (λ (t : List ℕ). t ++ table) none)) is
+
+  -- no tables yet
+  pub no_tables : (text : List ℕ) → text ≡ [] → AreTables j program plan 0 0 text
+  no_tables text is = subst (AreTables j program plan 0 0) (sym is) AreTables.none
+
+  -- the table of a type with itself is the next one
+  pub own_table : (a types : ℕ) (text t1 t2 : List ℕ) → types ≡ length j.types → a < types → AreTables j program plan a a text
+      → t1 ≡ text ++ separator a → (table : List ℕ) × IsTable j program plan a a table × (t2 ≡ t1 ++ table)
+      → AreTables j program plan a (a + 1) t2
+  own_table a types text t1 t2 count within so_far apart next =
+      let whole : t2 ≡ text ++ (separator a ++ next.0) = joined text t1 t2 (separator a) next.0 apart next.2 in
+      rw (add-one a) (rw whole (AreTables.own so_far (subst (λ n. a < n) count within) next.1))
+
+  -- the tables of two different types are the next ones
+  pub more_tables : (a b types : ℕ) (text t1 t2 between : List ℕ) → types ≡ length j.types → a < b → b < types
+      → AreTables j program plan a b text → t1 ≡ text ++ between → between ≡ between_tables
+      → (tables : List ℕ) × AreBothTables j program plan a b tables × (t2 ≡ t1 ++ tables) → AreTables j program plan a (b + 1) t2
+  more_tables a b types text t1 t2 between count before within so_far apart blank next =
+      let whole : t2 ≡ text ++ (between_tables ++ next.0) =
+      joined text t1 t2 between_tables next.0 (apart ∙ ap (λ t. text ++ t) blank) next.2 in
+      rw (add-one b) (rw whole (AreTables.both so_far before (subst (λ n. b < n) count within) next.1))
+
+  -- all tables of a type are there
+  pub next_type : (a b types : ℕ) (text : List ℕ) → b ≡ types → types ≡ length j.types → AreTables j program plan a b text
+      → AreTables j program plan (a + 1) (a + 1) text
+  next_type a b types text last count are =
+      rw (add-one a) (AreTables.next (subst (λ n. AreTables j program plan a n text) (last ∙ count) are))
 
   -- the table of the pair that the plan names
   pub one_table : (a b : ℕ) (text : List ℕ) → plan.pair ≡ Some (a, b) → IsTable j program plan a b text
@@ -171,10 +216,10 @@ module _ (j : JobValue) (program : Trees) (plan : CurvePlan) where
   one_table a b text named is = subst (λ pair. AreTablesOf j program plan pair text) (sym named) is
 
   -- the tables of all pairs, if the plan names none
-  pub every_table : (types : ℕ) (text : List ℕ) → plan.pair ≡ None → types ≡ length j.types → AreTables j program plan (types * types) text
+  pub every_table : (types : ℕ) (text : List ℕ) → plan.pair ≡ None → types ≡ length j.types → AreTables j program plan types types text
       → AreTablesOf j program plan plan.pair text
   every_table types text none count are =
-      subst (λ pair. AreTablesOf j program plan pair text) (sym none) (subst (λ n. AreTables j program plan (n * n) text) count are)
+      subst (λ pair. AreTablesOf j program plan pair text) (sym none) (subst (λ n. AreTables j program plan n n text) count are)
 
 -- the text of a job's potential
 pub is_curve : {A : Type 0} (j : JobValue) (plan : CurvePlan) (potential : Potential A) (text : List ℕ) → IsPotentialOf j potential

@@ -1,6 +1,6 @@
 -- The text that `curve` prints for a job: a table for each pair of types, or for one pair, with the potential as it is
 -- computed, and bounds on its distance from the formula over exact numbers.
-use Rattle.std.specs.Prelude.{◌≡◌, ◌⊎◌, ◌<◌, ◌+◌, ◌*◌, ◌/◌, ◌%◌, ◌==◌, ℕ, zero, suc, if◌then◌else◌, ℤ, pos, ◌+ℤ◌, ◌-ℤ◌, unsigned_abs, List, [], ◌++◌, length, map, slice_get, slice_index_or, Option, Some, None, IfSome, Ok, codes}
+use Rattle.std.specs.Prelude.{◌≡◌, ◌≢◌, ◌⊎◌, ◌<◌, ◌+◌, ◌*◌, ◌/◌, ◌==◌, ℕ, zero, suc, if◌then◌else◌, ℤ, pos, ◌+ℤ◌, ◌-ℤ◌, unsigned_abs, List, [], ◌++◌, length, map, slice_get, slice_index_or, Option, Some, None, IfSome, Ok, codes}
 use Rattle.std.specs.Int.{int_max}
 use Rattle.derivative.specs.DualNumbers.{IsScoped}
 use Rattle.derivative.specs.Slope.{slope_of}
@@ -80,33 +80,59 @@ columns_text All = codes "# r/nm energy/(kJ/mol) energy-error slope/(kJ/mol/nm) 
 columns_text Energy = codes "# r/nm energy/(kJ/mol) energy-error\n"
 columns_text Slope = codes "# r/nm slope/(kJ/mol/nm) slope-error\n"
 
--- the table of a pair of types: head and body
-pub record IsTable (j : JobValue) (program : Trees) (plan : CurvePlan) (a b : ℕ) (text : List ℕ) : Type 0 where
+-- the body of the table of a pair of types
+pub record IsTableBody (j : JobValue) (program : Trees) (plan : CurvePlan) (a b : ℕ) (body : List ℕ) : Type 0 where
   pub rows : List Row
   pub are_rows : AreRows j program plan.points a b rows
-  pub body : List ℕ
   pub is_body : IsBodyText (bits_of j.frac) plan.columns rows body
-  pub is : text ≡ names_text (name_of_type j a) (name_of_type j b) ++ (columns_text plan.columns ++ body)
 
--- two empty lines before each table but the first, by which gnuplot separates tables
+-- the line of the names of the types with these numbers
+abbrev pub pair_line : JobValue → (a b : ℕ) → List ℕ
+pair_line j a b = names_text (name_of_type j a) (name_of_type j b)
+
+-- the table of a pair of types with this body: the line of their names, the line of the columns, and the body
+abbrev pub table_text : JobValue → CurvePlan → (a b : ℕ) → (body : List ℕ) → List ℕ
+table_text j plan a b body = pair_line j a b ++ (columns_text plan.columns ++ body)
+
+-- the table of a pair of types
+pub record IsTable (j : JobValue) (program : Trees) (plan : CurvePlan) (a b : ℕ) (text : List ℕ) : Type 0 where
+  pub body : List ℕ
+  pub is_body : IsTableBody j program plan a b body
+  pub is : text ≡ table_text j plan a b body
+
+-- two empty lines, by which gnuplot separates tables
+abbrev pub between_tables : List ℕ
+between_tables = codes "\n\n"
+
+-- The tables of the types a and b, and of the types b and a. If they have the same body, one table has the names of both
+-- pairs. Otherwise each pair has a table.
+pub data AreBothTables (j : JobValue) (program : Trees) (plan : CurvePlan) (a b : ℕ) : List ℕ → Type 0 where
+  one : {body : List ℕ} → IsTableBody j program plan a b body → IsTableBody j program plan b a body
+      → AreBothTables j program plan a b (pair_line j a b ++ table_text j plan b a body)
+  two : {first second : List ℕ} → IsTableBody j program plan a b first → IsTableBody j program plan b a second → first ≢ second
+      → AreBothTables j program plan a b (table_text j plan a b first ++ (between_tables ++ table_text j plan b a second))
+
+-- two empty lines before each table but the first
 abbrev pub separator : ℕ → List ℕ
 separator zero = []
-separator (suc p) = codes "\n\n"
+separator (suc p) = between_tables
 
--- The first tables, up to this number, and their text. The pairs of types are ordered by the first type, then by the
--- second; the first is the type of the atom with the lower number.
-pub data AreTables (j : JobValue) (program : Trees) (plan : CurvePlan) : ℕ → List ℕ → Type 0 where
-  none : AreTables j program plan 0 []
-  more : {p : ℕ} {text table : List ℕ} → AreTables j program plan p text
-      → IsTable j program plan (p / length j.types) (p % length j.types) table
-      → AreTables j program plan (suc p) (text ++ (separator p ++ table))
+-- The first tables, and their text: all tables of the types before a, and the tables of the type a with itself and with
+-- the types after it, up to the type b. The first type of a pair is the type of the atom with the lower number.
+pub data AreTables (j : JobValue) (program : Trees) (plan : CurvePlan) : (a b : ℕ) → List ℕ → Type 0 where
+  none : AreTables j program plan 0 0 []
+  own : {a : ℕ} {text table : List ℕ} → AreTables j program plan a a text → a < length j.types → IsTable j program plan a a table
+      → AreTables j program plan a (suc a) (text ++ (separator a ++ table))
+  both : {a b : ℕ} {text tables : List ℕ} → AreTables j program plan a b text → a < b → b < length j.types
+      → AreBothTables j program plan a b tables → AreTables j program plan a (suc b) (text ++ (between_tables ++ tables))
+  next : {a : ℕ} {text : List ℕ} → AreTables j program plan a (length j.types) text → AreTables j program plan (suc a) (suc a) text
 
 -- the table of the pair of types with these numbers; without them, the tables of all pairs
 abbrev pub AreTablesOf : JobValue → Trees → CurvePlan → (pair : Option (ℕ × ℕ)) → List ℕ → Type 0
-AreTablesOf j program plan None text = AreTables j program plan (length j.types * length j.types) text
+AreTablesOf j program plan None text = AreTables j program plan (length j.types) (length j.types) text
 AreTablesOf j program plan (Some (a, b)) text = IsTable j program plan a b text
 
--- the number of these tables
+-- the number of pairs of types whose rows are computed
 abbrev pub table_count : JobValue → (pair : Option (ℕ × ℕ)) → ℕ
 table_count j None = length j.types * length j.types
 table_count j (Some pair) = 1
@@ -129,7 +155,7 @@ pub record IsCurve (j : JobValue) (plan : CurvePlan) (text : List ℕ) : Type 0 
   pub tables : AreTablesOf j program plan plan.pair text
 
 -- the number of parts of a curve: the slices of the slope's code, the slices of the energy's code, and the rows of all
--- tables
+-- pairs of types
 abbrev pub curve_parts : JobValue → CurvePlan → ℕ
 curve_parts j plan = 2 * slices_of j + table_count j plan.pair * (plan.points + 1)
 

@@ -1,30 +1,9 @@
-use Rattle.std.proofs.Common.{arith}
-use Rattle.std.proofs.lemmas.Result.{IfOk-weaker}
 use Rattle.energy_program.specs.Programs.{trees_of}
 use Rattle.job.specs.Views.{job_value}
-use Rattle.curves.proofs.ReportLaws.{whatever_error, whatever_value}
-use Rattle.curves.proofs.TableLaws.{is_table}
+use Rattle.curves.proofs.TableLaws.{table_alone}
 use Rattle.curves.proofs.tables.table_of.Goals as goal
-
-pub returns-in_err-pair-clause-stopped : goal.returns-in_err-pair-clause-stopped
-returns-in_err-pair-clause-stopped g c =
-    whatever_error c.from_residual.result _ (0, omega arith, g.met.W.Progress.passed_none c.args.watch.now)
-
-pub returns-in_err-body-clause-stopped : goal.returns-in_err-body-clause-stopped
-returns-in_err-body-clause-stopped g c = whatever_error c.from_residual-in_err-body.result _ c.in_err-body.ensures.stopped
 
 pub returns-clause-table : goal.returns-clause-table
 returns-clause-table g c =
-    let j = job_value c.args.job.now in
-    let body = c.in_ok-body.body in
-    let is = c.in_ok-body.ensures.body in
-    IfOk-weaker c.text_of.result _ _
-    (λ text h. is_table j (trees_of c.args.potential.now.slope.energy) c.args.plan.now c.args.a c.args.b c.in_ok-pair.pair.a
-    c.in_ok-pair.pair.b body text.items is c.in_ok-pair.ensures.first c.in_ok-pair.ensures.second h)
-    (c.text_of.ensures is.rows is.has)
-
-pub returns-clause-passed : goal.returns-clause-passed
-returns-clause-passed g c = whatever_value c.text_of.result _ c.in_ok-body.ensures.passed
-
-pub returns-clause-stopped : goal.returns-clause-stopped
-returns-clause-stopped g c = whatever_error c.text_of.result _ (_, omega arith, c.in_ok-body.ensures.passed)
+    table_alone (job_value c.args.job.now) (trees_of c.args.potential.now.slope.energy) c.args.plan.now c.args.a c.args.b _ _
+    c.new-text.ensures.items c.in_ok-put_one.ensures.table
