@@ -219,7 +219,7 @@ LINES = {
     "pairmd st": ["start", "states"],
     "pairmd back job state --ste": ["--steps"],
     "pairmd back job state -n ": [],
-    "pairmd replay job states --": ["--workers", "--from", "--to", "--part", "--help"],
+    "pairmd replay job states --": ["--workers", "--from", "--to", "--part", "--progress", "--help"],
     "pairmd replay job states --part ": [],
     "pairmd observe job state --e": ["--every", "--exact", "--each"],
     "pairmd observe job state --te": ["--tensor"],

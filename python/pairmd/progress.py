@@ -28,17 +28,22 @@ def rates(lines: Iterable[str], now: Callable[[], float] = time.monotonic) -> It
     """Yields the reports of progress among some lines with rate and time left, at most one a second and the last, and
     all other lines as they are.
 
-    now: a clock in seconds. Rates count from the call, which should begin when the command does.
+    now: a clock in seconds. Rates count from the call, which should begin when the command does; those of a segment of a
+    replay, from the report before it.
     """
-    begin = shown = now()
+    begin = last = shown = now()
     held = None
+    before = (0, 0)
     for line in lines:
         found = REPORT.fullmatch(line)
         if found:
             at = now()
             done, wanted = int(found[1]), int(found[2])
+            if before[0] >= done or before[1] not in (0, wanted):
+                begin = last
+            before, last = (done, wanted), at
             held = with_rate(done, wanted, found[3], at - begin)
-            if at - shown < SECONDS and done < wanted:
+            if at - shown < SECONDS:
                 continue
             shown = at
         if held is not None:

@@ -206,6 +206,14 @@ class Tables(unittest.TestCase):
         self.assertEqual((curve.types, curve.rows[0].slope), (("AR", "KR"), Decimal("-9.5")))
         self.assertEqual((curve.rows[0].energy_error, curve.rows[0].slope_error), (Decimal("1.00e-2"), None))
 
+    def test_curve_of_two_pairs(self):
+        text = CURVE + "\n\n" + CURVE.replace("# AR KR\n", "# KR XE\n# XE KR\n")
+        curves = list(pairmd.read_curves(text.splitlines(keepends=True)))
+        self.assertEqual([it.types for it in curves], [("AR", "KR"), ("KR", "XE"), ("XE", "KR")])
+        self.assertEqual([it.rows for it in curves], 3 * [curves[0].rows])
+        with self.assertRaises(pairmd.FormatError):
+            list(pairmd.read_curves(["# AR KR\n", "# KR AR\n", "0.25 2.5 1.00e-2\n"]))
+
     def test_curve_of_one_quantity(self):
         text = "# r/nm AR\n# r/nm slope/(kJ/mol/nm) slope-error\n0.200000000000 -9.500000000000 -\n"
         text += "# no slope-error from 0.200000000000\n# greatest slope-error - (1 row without)\n"

@@ -197,6 +197,16 @@ class Progress(unittest.TestCase):
         self.assertEqual(self.shown(3600), ["pairmd: 100 of 400 steps, 0 steps/s, 3:00:00 left", end])
         self.assertEqual(list(progress.rates(["pairmd: 1 of 2 parts\n"], lambda: 0.0)), ["pairmd: 1 of 2 parts"])
 
+    def test_segments(self):
+        """Each segment of a replay has rates of its own, and not each its last report."""
+        reports = ["pairmd: 1 of 2 steps\n", "pairmd: 2 of 2 steps\n", "pairmd: 1 of 2 steps\n", "pairmd: 2 of 2 steps\n"]
+        self.assertEqual(list(progress.rates([*reports, "pairmd: 4 of 8 steps\n"], iter([0.0, 1, 1.5, 2, 6, 10]).__next__)), [
+            "pairmd: 1 of 2 steps, 1 steps/s, 0:00:01 left",
+            "pairmd: 1 of 2 steps, 2 steps/s, 0:00:00 left",
+            "pairmd: 2 of 2 steps, 0 steps/s, 0:00:00 left",
+            "pairmd: 4 of 8 steps, 1 steps/s, 0:00:04 left",
+        ])  # fmt: skip
+
     @needs_program
     def test_command(self):
         words = ["run", example("lennard-jones.job"), example("mixture.state"), "--steps", "200", "--progress"]

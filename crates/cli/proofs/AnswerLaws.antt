@@ -126,8 +126,8 @@ answers_fault words held requested requested' out out' err between err' f result
       most = omega (arith, same, most);
       done = λ zero. absurd (fails_at words held requested requested' out out' err between result status.Done number zero);
       quiet = λ zero. absurd (fails_at words held requested requested' out out' err between result status.Done number zero);
-      said = λ some. said_told f result (PrintsError words held result err err')
-          (says_told words held err between err' f result room (begun words held requested requested' out out' err between f is) told);
+      said = λ some. said_told f result (PrintsError words held out out' result err err')
+          (says_told words held out out' err between err' f result room (begun words held requested requested' out out' err between f is) told);
       kept = λ some. kept_told words held requested requested' out out' err between f result (PrintsIfCounted between err')
           (kept words held requested requested' out out' err between (status_of f) fails) told;
       misuse = λ two. let misused = fails_at words held requested requested' out out' err between result status.CommandLine number two in (misused.0, misused.2);

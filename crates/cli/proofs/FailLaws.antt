@@ -63,7 +63,7 @@ use Rattle.state.specs.declared.sources.ReadFault.{ReadFault}
 use Rattle.state.specs.declared.sources.ReadFault.TheVariants as read
 use Rattle.cli.proofs.AcceptLaws.{code_given, code_of_texts_given, counter_given, engine_given, text_code_given, text_given}
 use Rattle.cli.proofs.FileLaws.{AreHeld, gather, known_also, known_lacks, of_known, of_task}
-use Rattle.cli.proofs.ProgressLaws.{ComesLate, IsReached, told_code, told_late}
+use Rattle.cli.proofs.ProgressLaws.{may_also, told_code, told_data}
 use Rattle.cli.proofs.StatusLaws.{one_number}
 use Rattle.cli.proofs.StreamLaws.{IsSound, none_printed, sound_replayed, sound_shown, states_given, stream_code_given, stream_read}
 use Rattle.state.proofs.StateLaws.{faults_start_none}
@@ -515,20 +515,23 @@ output_given held c contents gives has =
     of_known held (files_of c) contents (λ x. HasOutput ((action_of c).task x) × IsToldStream held ((action_of c).task x)) gives
     (stream_known held c has)
 
--- a stream reports no progress
-stream_quiet : (held : Held) (c : CommandView) (contents : Contents (files_of c)) (before after : Output)
-    → IsStream ((action_of c).task contents) → ReportsSome (work_of held c) before after → ReportsDone (work_of held c) 0 before after
-stream_quiet held (command.Replay r) contents before after is (inl same) = same
-stream_quiet held (command.Replay r) contents before after is (inr some) = absurd some.0
-stream_quiet held (command.Each e) contents before after is (inl same) = same
-stream_quiet held (command.Each e) contents before after is (inr some) = absurd some.0
-stream_quiet held (command.Check job listing progress) contents before after is told = absurd (of_check job listing contents is)
+-- the progress of a stream is that of a replay
+stream_told : (held : Held) (out out' : Output) (c : CommandView) (contents : Contents (files_of c)) (before after : Output)
+    → IsStream ((action_of c).task contents)
+    → ReportsSome ((work_of held out out' c).verifies ⊎ (work_of held out out' c).replays) (work_of held out out' c) before after
+    → ReportsSome (work_of held out out' c).replays (work_of held out out' c) before after
+stream_told held out out' (command.Replay r) contents before after is (inl same) = inl same
+stream_told held out out' (command.Replay r) contents before after is (inr some) = inr (tt, some.1)
+stream_told held out out' (command.Each e) contents before after is (inl same) = inl same
+stream_told held out out' (command.Each e) contents before after is (inr (inl none, some)) = absurd none
+stream_told held out out' (command.Each e) contents before after is (inr (inr none, some)) = absurd none
+stream_told held out out' (command.Check job listing progress) contents before after is told = absurd (of_check job listing contents is)
   where
     of_check : (job : List ℕ) (listing : Option (List ℕ)) (contents : Contents (check_action job listing).files)
         → IsStream ((check_action job listing).task contents) → ⊥
     of_check job None contents is = is
     of_check job (Some listing) contents is = is
-stream_quiet held _ contents before after is told = absurd is
+stream_told held out out' _ contents before after is told = absurd is
 
 -- ---- what was printed
 
@@ -615,18 +618,10 @@ module _ (words : List (List ℕ)) (held : Held) (requested requested' : Paths) 
   abbrev pub IsKeptBut : (status : ℕ) → Type 0
   IsKeptBut status = IsKept out out' ⊎ ((c : CommandView) × IsCommand words c × OfTask held c (PrintsBefore status))
 
-  -- before a fault that isn't late there is no progress
-  quiet : {A : Type 0} (work : Work) (f : CommandFault A) (s : Status) → status_of f ≡ s → (ComesLate s work → ⊥)
-      → ReportsBefore work err between f → between ≡ err
-  quiet work f s is early told = by_late (told_late work err between f told)
-    where
-      by_late : (between ≡ err) ⊎ (ComesLate (status_of f) work × IsReached work err between) → between ≡ err
-      by_late (inl same) = same
-      by_late (inr late) = absurd (early (subst (λ t. ComesLate t work) is late.0))
-
   -- memory may run out where the output is unchanged, or after some texts of a stream
   out_of_memory : (c : CommandView) (contents : Contents (files_of c)) → IsCommand words c → AreHeld held (files_of c) contents
-      → requested' ≡ requested_by requested c → ReportsSome (work_of held c) err between
+      → requested' ≡ requested_by requested c
+      → ReportsSome ((work_of held out out' c).verifies ⊎ (work_of held out out' c).replays) (work_of held out out' c) err between
       → (out' ≡ out) ⊎ (IsStream ((action_of c).task contents) × LeavesTexts ((action_of c).task contents) 0 out out')
       → IsOutOfMemory words held requested requested' out out' err between
   out_of_memory c contents named gives all told (inl same) = inr (inl (same, inr (c, named, told)))
@@ -637,46 +632,46 @@ module _ (words : List (List ℕ)) (held : Held) (requested requested' : Paths) 
     (
       0,
       of_task held c contents (λ t. LeavesTexts t 0 out out') gives left,
-      stream_quiet held c contents err between is told,
+      inr (stream_told held out out' c contents err between is told),
     ),
   )
 
   ends_task : {A : Type 0} (c : CommandView) (contents : Contents (files_of c)) (f : CommandFault A)
       → IsCommand words c → AreHeld held (files_of c) contents → requested' ≡ requested_by requested c
-      → ReportsBefore (work_of held c) err between f → IsEnded held ((action_of c).task contents) out out' f → Fails (status_of f)
+      → ReportsBefore (work_of held out out' c) err between f → IsEnded held ((action_of c).task contents) out out' f → Fails (status_of f)
   ends_task c contents f named gives all told (by_data is rejects) = subst Fails (sym is) (
     c,
     named,
     of_task held c contents (λ t. RejectsData t out out') gives rejects,
     all,
-    quiet (work_of held c) f status.RefusedData is (λ x. x) told,
+    told_data (work_of held out out' c) err between f is told,
   )
   ends_task c contents f named gives all told (by_code is rejects same) =
       subst Fails (sym is)
-      (c, named, of_task held c contents RejectsCode gives rejects, all, same, told_code (work_of held c) err between f is told)
+      (c, named, of_task held c contents RejectsCode gives rejects, all, same, told_code (work_of held out out' c) err between f is told)
   ends_task c contents f named gives all told (by_file borrowed is loses) =
-      let still = subst (ReportsBefore (work_of held c) err between) is told in
+      let still = subst (ReportsBefore (work_of held out out' c) err between) is told in
       let read = of_task held c contents (λ t. LosesStream held t out out') gives loses in
       subst Fails (sym (ap status_of is)) (inr (inl (c, named, all, read, still)))
   ends_task c contents f named gives all told (by_output o is begun) =
-      let before = subst (ReportsBefore (work_of held c) err between) is told in
+      let before = subst (ReportsBefore (work_of held out out' c) err between) is told in
       let read = of_task held c contents (λ t. BeginsOutput t out out') gives begun in
       subst Fails (sym (ap status_of is)) (inr (inr (inr (c, named, all, read, before))))
   ends_task c contents f named gives all told (by_memory is left) =
-      let before = subst (ReportsBefore (work_of held c) err between) is told in
+      let before = subst (ReportsBefore (work_of held out out' c) err between) is told in
       subst Fails (sym (ap status_of is)) (out_of_memory c contents named gives all before left)
   ends_task c contents f named gives all told (by_steps done is left) =
-      let before = subst (ReportsBefore (work_of held c) err between) is told in
+      let before = subst (ReportsBefore (work_of held out out' c) err between) is told in
       let read = of_task held c contents (λ t. LeavesTexts t done out out') gives left in
-      subst Fails (sym (ap status_of is)) (inl (c, named, all, (done, read, before)))
+      subst Fails (sym (ap status_of is)) (inl (c, named, all, (done, read, inl before)))
 
-  ends_unread : {A : Type 0} (c : CommandView) (f : CommandFault A) → IsCommand words c → ReportsBefore (work_of held c) err between f
+  ends_unread : {A : Type 0} (c : CommandView) (f : CommandFault A) → IsCommand words c → ReportsBefore (work_of held out out' c) err between f
       → out' ≡ out → HasNoFile f (LacksFile held c requested requested') → Fails (status_of f)
   ends_unread c f named told same (inl (borrowed, is, lacks)) =
-      let before = subst (ReportsBefore (work_of held c) err between) is told in
+      let before = subst (ReportsBefore (work_of held out out' c) err between) is told in
       subst Fails (sym (ap status_of is)) (inl (c, named, lacks, same, before))
   ends_unread c f named told same (inr is) =
-      let before = subst (ReportsBefore (work_of held c) err between) is told in
+      let before = subst (ReportsBefore (work_of held out out' c) err between) is told in
       subst Fails (sym (ap status_of is)) (inr (inl (same, inr (c, named, before))))
 
   -- arguments that end in a fault fail with its status
@@ -747,14 +742,18 @@ module _ (words : List (List ℕ)) (held : Held) (requested requested' : Paths) 
   memory_of status.Done h = absurd h
   memory_of status.RefusedData (c, named, rejects, all, still) =
       let read = gather held (files_of c) (λ x. RejectsData ((action_of c).task x) out out') rejects in
-      out_of_memory c read.0 named read.1 all (inl still) (rejected ((action_of c).task read.0) out out' read.2)
+      out_of_memory c read.0 named read.1 all (may_also _ _ (work_of held out out' c) err between inr still)
+      (rejected ((action_of c).task read.0) out out' read.2)
   memory_of status.CommandLine (misuse, still, same, quiet) = inr (inl (same, inl quiet))
-  memory_of status.RefusedKernel (c, named, rejects, all, same, told) = inr (inl (same, inr (c, named, told)))
+  memory_of status.RefusedKernel (c, named, rejects, all, same, told) =
+      inr (inl (same, inr (c, named, may_also _ _ (work_of held out out' c) err between inl told)))
   memory_of status.Memory h = h
-  memory_of status.File (inl (c, named, lacks, same, quiet)) = inr (inl (same, inl quiet))
+  memory_of status.File (inl (c, named, lacks, same, quiet)) =
+      inr (inl (same, inr (c, named, may_also _ _ (work_of held out out' c) err between inr quiet)))
   memory_of status.File (inr (inl (c, named, all, loses, quiet))) =
       let read = gather held (files_of c) (λ x. LosesStream held ((action_of c).task x) out out') loses in
-      out_of_memory c read.0 named read.1 all (inl quiet) (inr (lost held ((action_of c).task read.0) out out' read.2))
+      out_of_memory c read.0 named read.1 all (may_also _ _ (work_of held out out' c) err between inr quiet)
+      (inr (lost held ((action_of c).task read.0) out out' read.2))
   memory_of status.File (inr (inr failed)) = inr (inr failed)
 
   -- the status with this number is reported, and this is how the program fails with it

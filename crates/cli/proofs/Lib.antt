@@ -8,6 +8,7 @@ pub mod Printing
 pub mod ProgressLaws
 pub mod RefusalLaws
 pub mod ReplayLaws
+pub mod ReplayProgress
 pub mod ReturnLaws
 pub mod ShownLaws
 pub mod StartLaws

@@ -1,5 +1,7 @@
 -- Ends of the commands that show states of a run: their output, and their progress reports.
-use Rattle.std.proofs.Common.{◌≡◌, ◌∙◌, ◌≤◌, ◌*◌, ◌/◌, ◌-◌, ℕ, suc, List, [], ◌∷◌, Bool, true, false, ap, arith, codes, inl, inr, refl, subst, sym, zero-add, Option, Some, None, Result, Ok, Err}
+use Rattle.std.proofs.Common.{◌≡◌, ◌∙◌, ◌≤◌, ◌*◌, ◌/◌, ◌-◌, ℕ, suc, List, [], ◌∷◌, Bool, true, false, ap, ap₂, arith, codes, inl, inr, map, refl, subst, sym, zero-add, Option, Some, None, Result, Ok, Err}
+use Rattle.std.specs.List.{All}
+use Rattle.std.proofs.lemmas.List.Elements.{All-head, All-tail}
 use Rattle.std.proofs.Math.Nat.{mul-le-mul_right}
 use Rattle.command_line.specs.Commands.{RunView, VisitsView}
 use Rattle.command_line.specs.Commands as command
@@ -8,7 +10,7 @@ use Rattle.integrator.specs.declared.faults.StepFault.TheVariants as step
 use Rattle.engine.specs.declared.faults.InputFault.{InputFault}
 use Rattle.engine.specs.declared.faults.InputFault.TheVariants as input
 use Rattle.runs.specs.Plans.{PlanView, end_plan, last_text, steps_made, steps_to}
-use Rattle.runs.specs.Shown.{IsUnshown}
+use Rattle.runs.specs.Shown.{HasShown, IsUnshown}
 use Rattle.runs.specs.Visits.{IsShownOfRun, Showing, WroteTexts}
 use Rattle.runs.specs.Watching.{Report, counts_of, hundredths_behind}
 use Rattle.runs.specs.WholeStates.{ShowsState}
@@ -17,12 +19,12 @@ use Rattle.runs.specs.declared.faults.RunFault.TheVariants as run
 use Rattle.runs.proofs.PlanLaws.{end_text, made_of_end, made_of_visits}
 use Rattle.runs.proofs.RunLaws.{run_wrote}
 use Rattle.runs.proofs.VisitLaws.{unshown_told}
-use Rattle.cli.specs.Actions.{EndOfRun, Held, Paths, StatesOfRun, Task, Work, action_of, of_two, steps_work, visits_action, visits_work, work_of}
-use Rattle.cli.specs.Command.{HasPrinted, PrintsProgress, PrintsRun, PrintsVisits, ReportsAll, ReportsDone, ReportsPart, plan_of}
+use Rattle.cli.specs.Actions.{EndOfRun, FirstLines, Held, Paths, StatesOfRun, Task, Work, action_of, of_two, progress_line, report_line, steps_work, visits_action, visits_work}
+use Rattle.cli.specs.Command.{HasPrinted, PrintsLines, PrintsRun, PrintsVisits, ReportsAll, ReportsDone, plan_of}
 use Rattle.cli.specs.CommandFailure.{ReportsTexts}
 use Rattle.cli.specs.Failures.{fault_of_run}
-use Rattle.cli.specs.Performed.{Performs, PrintsShown, ReportsSteps, ShowsFiles, StopsShown}
-use Rattle.cli.specs.Progress.{Reports, ReportsBefore, ReportsIf}
+use Rattle.cli.specs.Performed.{Performs, PrintsShown, ShowsFiles, StopsShown}
+use Rattle.cli.specs.Progress.{Reports, ReportsBefore, ReportsSteps}
 use Rattle.cli.specs.Refusals.{IsRunUndone, IsTaskUndone}
 use Rattle.cli.specs.declared.faults.CommandFault.{CommandFault}
 use Rattle.cli.proofs.ProgressLaws.{files_told, whole_told}
@@ -38,7 +40,7 @@ run_undone Shows job state plan before after told f (g, is, h) =
 -- the result of an action that shows states is that of its task
 ends : {T A : Type 0} (r : Result T (CommandFault A)) (held : Held) (requested requested' : Paths) (job state : List ℕ)
     (task : List ℕ → List ℕ → Task) (Shows : Showing) (progress : Bool) (plan : PlanView) (out out' err err' : Output)
-    → ((j s : List ℕ) → PrintsShown Shows j s plan out out' (ReportsSteps progress plan err err') → HasPrinted (task j s) out out')
+    → ((j s : List ℕ) → PrintsShown Shows j s plan out out' (ReportsSteps progress err err') → HasPrinted (task j s) out out')
     → ((j s : List ℕ) (f : CommandFault A) → IsRunUndone Shows j s plan out out' f → IsTaskUndone held (task j s) out out' f)
     → ShowsFiles held requested requested' job state Shows progress plan out out' err err' r
     → Performs held requested requested' (of_two job state task) out out' r
@@ -56,7 +58,7 @@ ends (Err f) held requested requested' job state task Shows progress plan out ou
           b,
           known',
           undone a b f
-              (run_undone Shows a b plan out out' (ReportsSteps progress plan err err') f h),
+              (run_undone Shows a b plan out out' (ReportsSteps progress err err') f h),
         ),
       ),
     )
@@ -97,17 +99,33 @@ abbrev Made : PlanView → ℕ → Type 0
 Made plan all = all ≡ steps_made plan
 
 -- without reports no progress is printed
-nothing : (progress : Bool) (n : ℕ) (before after : Output) → ReportsIf progress (codes "steps") n before after [] → after ≡ before
-nothing true n before after told = told
-nothing false n before after told = told
+nothing : (progress : Bool) (before after : Output) → ReportsSteps progress before after [] → after ≡ before
+nothing true before after told = told
+nothing false before after told = told
+
+-- the lines of reports that are all of n steps
+lines_of : (n : ℕ) (reports : List Report) → All (λ (r : Report). r.all ≡ n) reports
+    → map report_line reports ≡ map (progress_line (codes "steps") n) (counts_of reports)
+lines_of n [] all = refl
+lines_of n (r ∷ rs) all = ap₂ (λ line lines. line ∷ lines) (ap (λ k. progress_line (codes "steps") k r.done) (All-head (λ (x : Report). x.all ≡ n) r rs all))
+    (lines_of n rs (All-tail (λ (x : Report). x.all ≡ n) r rs all))
 
 -- the reports up to some step
-steps_told : (progress : Bool) (plan : PlanView) (done : ℕ) (before after : Output) (reports : List Report) → done ≤ steps_made plan
-    → counts_of reports ≡ hundredths_behind (steps_made plan) 0 done → ReportsSteps progress plan before after reports
-    → ReportsPart progress (codes "steps") (Made plan) done before after
-steps_told true plan done before after reports few counts told =
-    (steps_made plan, refl, few, subst (PrintsProgress (codes "steps") (steps_made plan) before after) counts told)
-steps_told false plan done before after reports few counts told = told
+steps_told : (progress : Bool) (IsText : ℕ → List ℕ → Type 0) (plan : PlanView) (count done : ℕ) (out out' before after : Output)
+    → done ≤ steps_made plan → HasShown IsText plan count done out out' (ReportsSteps progress before after)
+    → PrintsLines progress (FirstLines (codes "steps") (Made plan) done) before after
+steps_told true IsText plan count done out out' before after few h = (
+  map report_line h.reports,
+  (
+    steps_made plan,
+    refl,
+    few,
+    lines_of (steps_made plan) h.reports (λ i d below. (h.in_time i d below).all)
+        ∙ ap (map (progress_line (codes "steps") (steps_made plan))) h.counts,
+  ),
+  h.told',
+)
+steps_told false IsText plan count done out out' before after few h = h.told'
 
 -- Progress up to any text of a plan is the progress of the work if its output fails.
 abbrev ReportsToText : Work → PlanView → (before after : Output) → Type 0
@@ -118,34 +136,34 @@ ReportsToText work plan before after = (count : ℕ) → count ≤ last_text pla
 stops_told : {A : Type 0} (Shows : Showing) (job state : List ℕ) (progress : Bool) (plan : PlanView) (every : Option ℕ) (n : ℕ)
     (out out' err err' : Output) (g : RunFault (InputFault A)) → steps_made plan ≡ n
     → ReportsToText (steps_work progress n every) plan err err'
-    → IsUnshown Shows job state plan out out' (ReportsSteps progress plan err err') g
+    → IsUnshown Shows job state plan out out' (ReportsSteps progress err err') g
     → ReportsBefore (steps_work progress n every) err err' (fault_of_run g)
 stops_told Shows job state progress plan every n out out' err err' (run.Rejected (input.Job f)) made texts h =
-    nothing progress (steps_made plan) err err' h.2
+    nothing progress err err' h.2
 stops_told Shows job state progress plan every n out out' err err' (run.Rejected (input.State f)) made texts h =
-    nothing progress (steps_made plan) err err' h.2
+    nothing progress err err' h.2
 stops_told Shows job state progress plan every n out out' err err' (run.Rejected (input.Energy f)) made texts h =
-    inl (nothing progress (steps_made plan) err err' h.2)
+    inl (nothing progress err err' h.2)
 stops_told Shows job state progress plan every n out out' err err' (run.Rejected (input.System f)) made texts h =
-    nothing progress (steps_made plan) err err' h.2
+    nothing progress err err' h.2
 stops_told Shows job state progress plan every n out out' err err' (run.Rejected input.ForceRange) made texts h =
-    nothing progress (steps_made plan) err err' h.2
+    nothing progress err err' h.2
 stops_told Shows job state progress plan every n out out' err err' run.Memory made texts h =
-    inl (nothing progress (steps_made plan) err err' h.2)
+    inl (nothing progress err err' h.2)
 stops_told Shows job state progress plan every n out out' err err' (run.Steps step.StepRange) made texts h =
-    nothing progress (steps_made plan) err err' h.2
+    nothing progress err err' h.2
 stops_told Shows job state progress plan every n out out' err err' (run.Steps (step.Memory done)) made texts h =
     let left = h.1 in
     let most = mul-le-mul_right plan.every left.few in
     let up_to = left.up_to in
     subst (λ k. ReportsDone (steps_work progress k every) done err err') made
-    (steps_told progress plan done err err' left.shown.reports (omega (arith, most, up_to)) left.shown.counts left.shown.told')
+    (steps_told progress _ plan left.count done out out' err err' (omega (arith, most, up_to)) left.shown)
 stops_told Shows job state progress plan every n out out' err err' (run.Out o) made texts h =
     let left = h.1 in
     let most = mul-le-mul_right plan.every left.few in
     texts left.count left.few
     (subst (λ k. ReportsDone (steps_work progress k every) (steps_to plan left.count) err err') made
-    (steps_told progress plan (steps_to plan left.count) err err' left.shown.reports (omega (arith, most)) left.shown.counts left.shown.told'))
+    (steps_told progress _ plan left.count (steps_to plan left.count) out left.between err err' (omega (arith, most)) left.shown))
 
 -- the progress of what shows states
 reports_shown : {T A : Type 0} (r : Result T (CommandFault A)) (held : Held) (requested requested' : Paths) (job state : List ℕ)
@@ -157,7 +175,7 @@ reports_shown (Ok x) held requested requested' job state Shows progress plan eve
     let most : steps_made plan ≤ steps_made plan = omega arith in
     subst (λ k. ReportsAll (steps_work progress k every) err err') made
     (whole_told progress (codes "steps") (Made plan) (steps_made plan) err err' (λ n is. is)
-    (steps_told progress plan (steps_made plan) err err' h.2.reports most h.2.counts h.2.told'))
+    (steps_told progress _ plan (suc (last_text plan)) (steps_made plan) out out' err err' most h.2))
 reports_shown (Err f) held requested requested' job state Shows progress plan every n out out' err err' made texts (inl h) =
     subst (λ o. ReportsBefore (steps_work progress n every) err o f) (sym h.1.1)
     (files_told held (steps_work progress n every) err (job ∷ state ∷ []) requested requested' f h.0)
@@ -173,7 +191,7 @@ end_of run = end_plan run.direction run.steps
 -- a run reports all its steps before its text
 pub reports_run : {T A : Type 0} (r : Result T (CommandFault A)) (held : Held) (requested requested' : Paths) (run : RunView) (out out' err err' : Output)
     → ShowsFiles held requested requested' run.job run.state ShowsState run.progress (end_of run) out out' err err' r
-    → Reports (work_of held (command.Run run)) err err' r
+    → Reports (steps_work run.progress run.steps None) err err' r
 reports_run r held requested requested' run out out' err err' h =
     reports_shown r held requested requested' run.job run.state ShowsState run.progress (end_of run) None run.steps out out' err err'
     made texts h

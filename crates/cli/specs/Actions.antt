@@ -3,22 +3,25 @@
 --
 -- The specification of commands (`Command`, `CommandFailure`, `Refusals`) consists of statements about tasks and works,
 -- so it has no other table of commands.
-use Rattle.std.specs.Prelude.{◌≡◌, ◌⊎◌, ◌*◌, ◌/◌, ℕ, List, [], ◌∷◌, ◌++◌, Bool, false, Option, Some, None, IfSome, codes}
-use Rattle.command_line.specs.Commands.{CommandView, CurveView, RunView, VisitsView}
+use Rattle.std.specs.Prelude.{◌≡◌, ◌⊎◌, ◌≤◌, ◌*◌, ◌/◌, ℕ, List, [], ◌∷◌, ◌++◌, Bool, false, Option, Some, None, IfSome, codes, decimal, map}
+use Rattle.command_line.specs.Commands.{CommandView, CurveView, ReplayView, RunView, VisitsView}
 use Rattle.command_line.specs.Commands as command
 use Rattle.command_line.specs.declared.commands.Quantity.{Quantity}
 use Rattle.curves.specs.Tables.{curve_parts}
 use Rattle.curves.specs.declared.plans.CurvePlan.{CurvePlan}
+use Rattle.fallible.specs.Out.{AppendsBeginning, Output}
 use Rattle.job.specs.JobText.{IsJobText, limits}
 use Rattle.job.specs.Values.{JobValue}
 use Rattle.potential.specs.Progress.{slices_of}
 use Rattle.runs.specs.Frames.{ShowsFrame}
 use Rattle.runs.specs.Observations.{ShowsTable}
 use Rattle.runs.specs.Visits.{Showing}
+use Rattle.runs.specs.Watching.{Report, hundredths, hundredths_behind}
 use Rattle.runs.specs.WholeStates.{ShowsState}
 use Rattle.cli.specs.CurveTexts.{IsPlanOf}
 use Rattle.streams.specs.Replays.{replayed_by}
 use Rattle.streams.specs.Streams.{StreamOutput, shown_by}
+use Rattle.streams.specs.Watched.{AreAllWatched, AreWatchedTo}
 use Rattle.cli.specs.StreamTexts.{columns_of, plan_of_replay, shows_of}
 
 -- ---- files
@@ -180,19 +183,45 @@ AreSlices job all = OfJob job (λ j. all ≡ slices_of j)
 abbrev pub AreCurveParts : (job : List ℕ) → CurveView → ℕ → Type 0
 AreCurveParts job c all = OfJob job (λ j. (plan : CurvePlan) × IsPlanOf j c plan × (all ≡ curve_parts j plan))
 
--- The work of a command, whose progress it may report: whether it does; the word for its parts; the number of all
--- parts; the number k of steps from one text to the next, if it prints several texts; and whether it verifies code.
+-- the progress line after `made` of all parts of a work, which `word` names
+abbrev pub progress_line : (word : List ℕ) → (all made : ℕ) → List ℕ
+progress_line word all made = codes "pairmd: " ++ decimal made ++ codes " of " ++ decimal all ++ codes " " ++ word ++ codes "\n"
+
+-- the progress line of a report on steps
+abbrev pub report_line : Report → List ℕ
+report_line r = progress_line (codes "steps") r.all r.done
+
+-- These are all progress lines of a work, whose number of parts satisfies `IsAll`: one after each part that completes
+-- another hundredth.
+abbrev pub AllLines : (word : List ℕ) → (IsAll : ℕ → Type 0) → (lines : List (List ℕ)) → Type 0
+AllLines word IsAll lines = (all : ℕ) × IsAll all × (lines ≡ map (progress_line word all) (hundredths all))
+
+-- likewise for the first `done` parts of the work
+abbrev pub FirstLines : (word : List ℕ) → (IsAll : ℕ → Type 0) → (done : ℕ) → (lines : List (List ℕ)) → Type 0
+FirstLines word IsAll done lines =
+    (all : ℕ) × IsAll all × (done ≤ all) × (lines ≡ map (progress_line word all) (hundredths_behind all 0 done))
+
+-- The work of a command, whose progress it may report: whether it does; which are all its progress lines, and which
+-- those of its first `done` parts; the number k of steps from one text to the next, if it prints several texts; whether
+-- it verifies code; and whether it replays a stream.
 pub record Work : Type 1 where
   pub progress : Bool
-  pub word : List ℕ
-  pub all : ℕ → Type 0
+  pub whole : (lines : List (List ℕ)) → Type 0
+  pub part : (done : ℕ) → (lines : List (List ℕ)) → Type 0
   pub every : Option ℕ
   pub verifies : Type 0
+  pub replays : Type 0
 
 -- the work of a run of n steps
 abbrev pub steps_work : (progress : Bool) → (n : ℕ) → (every : Option ℕ) → Work
-steps_work progress n every =
-    record { progress = progress; word = codes "steps"; all = λ all. all ≡ n; every = every; verifies = ⊥ }
+steps_work progress n every = record {
+  progress = progress;
+  whole = AllLines (codes "steps") (λ all. all ≡ n);
+  part = FirstLines (codes "steps") (λ all. all ≡ n);
+  every = every;
+  verifies = ⊥;
+  replays = ⊥;
+}
 
 -- the work of a run up to its last frame, state or table row
 abbrev pub visits_work : VisitsView → Work
@@ -200,20 +229,53 @@ visits_work v = steps_work v.run.progress (v.run.steps / v.every * v.every) (Som
 
 -- a work that verifies code, and whose parts this word names
 abbrev pub parts_work : (progress : Bool) → (word : List ℕ) → (AreAll : ℕ → Type 0) → Work
-parts_work progress word AreAll =
-    record { progress = progress; word = word; all = AreAll; every = None; verifies = Unit {0} }
+parts_work progress word AreAll = record {
+  progress = progress;
+  whole = AllLines word AreAll;
+  part = FirstLines word AreAll;
+  every = None;
+  verifies = Unit {0};
+  replays = ⊥;
+}
 
 -- the work of `check`, whose parts are the slices that it verifies
 abbrev pub check_work : Held → (job : List ℕ) → (progress : Bool) → Work
 check_work held job progress = parts_work progress (codes "slices") (λ all. OfFile held job (λ text. AreSlices text all))
 
--- the work of each command; the others report no progress
-abbrev pub work_of : Held → CommandView → Work
-work_of held (command.Run run) = steps_work run.progress run.steps None
-work_of held (command.Trajectory v) = visits_work v
-work_of held (command.States v) = visits_work v
-work_of held (command.Observe v table) = visits_work v
-work_of held (command.Check job listing progress) = check_work held job progress
-work_of held (command.Curve c) =
-    parts_work c.progress (codes "parts") (λ all. OfFile held c.job (λ job. AreCurveParts job c all))
-work_of held _ = steps_work false 0 None
+-- a statement about the lines of reports on a replay of these files
+abbrev pub OfReports : Held → ReplayView → ((job bytes : List ℕ) → List Report → Type 0) → (lines : List (List ℕ)) → Type 0
+OfReports held r Are lines = OfFile held r.job (λ job. OfFile held r.states
+    (λ bytes. (reports : List Report) × Are job bytes reports × (lines ≡ map report_line reports)))
+
+-- the output is unchanged, or a write failed after a prefix of a line
+abbrev pub MayBegin : (before after : Output) → Type 0
+MayBegin before after = (after ≡ before) ⊎ ((line : List ℕ) × AppendsBeginning before after line)
+
+-- The work of `replay`, whose standard output was `out`, and is `out'`: the hundredths of each replayed segment, one
+-- segment after another. Its first `done` parts are the segments whose lines were printed, or these and the first `done`
+-- steps of the next segment; a line of the output may follow any step.
+abbrev pub replay_work : Held → (out out' : Output) → ReplayView → Work
+replay_work held out out' r = record {
+  progress = r.progress;
+  whole = OfReports held r (λ job bytes. AreAllWatched (plan_of_replay r) job out bytes out');
+  part = λ done. OfReports held r (λ job bytes reports.
+      (now : Output) × MayBegin now out' × AreWatchedTo (plan_of_replay r) job out bytes now done reports);
+  every = Some 1;
+  verifies = ⊥;
+  replays = Unit {0};
+}
+
+-- the work of `curve`: the slices of the slope's code, then of the energy's, then the rows
+abbrev pub curve_work : Held → CurveView → Work
+curve_work held c = parts_work c.progress (codes "parts") (λ all. OfFile held c.job (λ job. AreCurveParts job c all))
+
+-- the work of each command, whose standard output was `out`, and is `out'`; the others report no progress
+abbrev pub work_of : Held → (out out' : Output) → CommandView → Work
+work_of held out out' (command.Run run) = steps_work run.progress run.steps None
+work_of held out out' (command.Trajectory v) = visits_work v
+work_of held out out' (command.States v) = visits_work v
+work_of held out out' (command.Replay r) = replay_work held out out' r
+work_of held out out' (command.Observe v table) = visits_work v
+work_of held out out' (command.Check job listing progress) = check_work held job progress
+work_of held out out' (command.Curve c) = curve_work held c
+work_of held out out' _ = steps_work false 0 None

@@ -9,18 +9,17 @@
 -- Names. `words` are the arguments after the program's own name. `out` is standard output and `err` standard error,
 -- each before and after (with a prime). `requested` are the paths of the files that the program has requested, readable or
 -- not. Slope code is the compiled derivative dU/dr of a job's energy. `--steps` gives n, and `--every` gives k.
-use Rattle.std.specs.Prelude.{◌≡◌, ◌≢◌, ◌⊎◌, ◌≤◌, ◌<◌, ◌-◌, ◌/◌, ◌^◌, ℕ, suc, List, [], ◌∷◌, ◌++◌, Bool, true, false, map, codes, decimal}
+use Rattle.std.specs.Prelude.{◌≡◌, ◌≢◌, ◌⊎◌, ◌≤◌, ◌<◌, ◌-◌, ◌/◌, ◌^◌, ℕ, suc, List, [], ◌∷◌, ◌++◌, Bool, true, false, map, codes}
 use Rattle.command_line.specs.Commands.{CommandView, RunView, VisitsView}
 use Rattle.command_line.specs.CommandLine.{AsksForHelp, AsksForVersion, IsCommand, IsMisuse}
 use Rattle.engine.specs.Engines.{AreSafe, CounterFits}
 use Rattle.engine.specs.RunSpecification.{IsLevesqueVerletRun, WroteLevesqueVerletRun}
 use Rattle.runs.specs.Plans.{PlanView, visits_plan}
 use Rattle.runs.specs.Visits.{IsShownOfRun, Showing, WroteTexts}
-use Rattle.runs.specs.Watching.{hundredths, hundredths_behind}
 use Rattle.streams.specs.Streams.{WritesStates}
 use Rattle.fallible.specs.Out.{Appends, AppendsBeginning, Output}
 use Rattle.line_text.specs.Parts.{lacks}
-use Rattle.cli.specs.Actions.{AsksFor, CodeText, CurveText, EndOfRun, Explanation, FrameText, Held, ListingVerdict, OfKnownTask, OfTask, OneText, Paths, QuantityText, SlopeVerdict, StartText, StatesOfRun, StatesOfStream, Task, Text, Work, requested_by, work_of}
+use Rattle.cli.specs.Actions.{AsksFor, CodeText, CurveText, EndOfRun, Explanation, FrameText, Held, ListingVerdict, OfKnownTask, OfTask, OneText, Paths, QuantityText, SlopeVerdict, StartText, StatesOfRun, StatesOfStream, Task, Text, Work, requested_by, progress_line, work_of}
 use Rattle.cli.specs.Conversions.{IsCodeText, IsFrameText, IsStartText}
 use Rattle.cli.specs.CurveTexts.{HasNamedTypes, IsCurveText}
 use Rattle.cli.specs.Explained.{IsExplanation}
@@ -86,7 +85,7 @@ PrintsSome before after = (text : List ℕ) × (text ≢ []) × Appends before a
 
 -- the line with the program's name and its version
 abbrev pub version_line : List ℕ
-version_line = codes "pairmd 1.5.0\n"
+version_line = codes "pairmd 1.6.0\n"
 
 -- The arguments were carried out. Help or the version was printed, and no file was requested; or a command requested
 -- all its files in order and printed its output for them.
@@ -111,39 +110,28 @@ abbrev pub PrintsEach : List (List ℕ) → (before after : Output) → Type 0
 PrintsEach [] before after = after ≡ before
 PrintsEach (text ∷ texts) before after = (between : Output) × PrintsIfCounted before between text × PrintsEach texts between after
 
--- the progress line after `made` of all parts of a work, which `word` names
-abbrev pub progress_line : (word : List ℕ) → (all made : ℕ) → List ℕ
-progress_line word all made = codes "pairmd: " ++ decimal made ++ codes " of " ++ decimal all ++ codes " " ++ word ++ codes "\n"
-
 -- a progress line was printed for each of these numbers of parts, in order
 abbrev pub PrintsProgress : (word : List ℕ) → (all : ℕ) → (before after : Output) → List ℕ → Type 0
 PrintsProgress word all before after counts = PrintsEach (map (progress_line word all) counts) before after
 
--- If the flag is true, a progress line was printed after each part that completes another hundredth of the work, whose
--- number of parts satisfies `IsAll`. Otherwise the output is unchanged.
-abbrev pub ReportsWhole : Bool → (word : List ℕ) → (IsAll : ℕ → Type 0) → (before after : Output) → Type 0
-ReportsWhole true word IsAll before after = (all : ℕ) × IsAll all × PrintsProgress word all before after (hundredths all)
-ReportsWhole false word IsAll before after = after ≡ before
-
--- likewise for the first `done` parts of the work
-abbrev pub ReportsPart : Bool → (word : List ℕ) → (IsAll : ℕ → Type 0) → (done : ℕ) → (before after : Output) → Type 0
-ReportsPart true word IsAll done before after =
-    (all : ℕ) × IsAll all × (done ≤ all) × PrintsProgress word all before after (hundredths_behind all 0 done)
-ReportsPart false word IsAll done before after = after ≡ before
+-- If the flag is true, progress lines that satisfy `Are` were printed, in order. Otherwise the output is unchanged.
+abbrev pub PrintsLines : Bool → (Are : List (List ℕ) → Type 0) → (before after : Output) → Type 0
+PrintsLines true Are before after = (lines : List (List ℕ)) × Are lines × PrintsEach lines before after
+PrintsLines false Are before after = after ≡ before
 
 -- all progress lines of a work were printed, if its progress is reported; otherwise the output is unchanged
 abbrev pub ReportsAll : Work → (before after : Output) → Type 0
-ReportsAll work before after = ReportsWhole work.progress work.word work.all before after
+ReportsAll work before after = PrintsLines work.progress work.whole before after
 
 -- likewise the progress lines of the first `done` parts of a work
 abbrev pub ReportsDone : Work → (done : ℕ) → (before after : Output) → Type 0
-ReportsDone work done before after = ReportsPart work.progress work.word work.all done before after
+ReportsDone work done before after = PrintsLines work.progress (work.part done) before after
 
--- Standard error on success: a command with `--progress` printed all its progress lines. Otherwise standard error is
--- unchanged.
-abbrev pub IsQuiet : List (List ℕ) → Held → (before after : Output) → Type 0
-IsQuiet words held before after = ((AsksForHelp words ⊎ AsksForVersion words) × (after ≡ before))
-    ⊎ ((c : CommandView) × IsCommand words c × ReportsAll (work_of held c) before after)
+-- Standard error on success, with standard output before and after: a command with `--progress` printed all its progress
+-- lines. Otherwise standard error is unchanged.
+abbrev pub IsQuiet : List (List ℕ) → Held → (out out' : Output) → (before after : Output) → Type 0
+IsQuiet words held out out' before after = ((AsksForHelp words ⊎ AsksForVersion words) × (after ≡ before))
+    ⊎ ((c : CommandView) × IsCommand words c × ReportsAll (work_of held out out' c) before after)
 
 -- the line of an error with this text
 abbrev pub line : List ℕ → List ℕ
@@ -167,29 +155,27 @@ IsSaid status text = ((status ≡ 2) × (text ≢ []))
     ⊎ ((status ≡ 5) × ((path : List ℕ) × (text ≡ line (cannot_read path))))
 
 -- Progress may come before an error with this status: memory ran out (4), or a file or the output failed (5); in `check`
--- and `curve` also if code was rejected (3).
+-- and `curve` also if code was rejected (3); in `replay` also if data were rejected (1), since states are read on the way.
 abbrev pub IsLate : (status : ℕ) → Work → Type 0
-IsLate status work = (status ≡ 4) ⊎ (status ≡ 5) ⊎ ((status ≡ 3) × work.verifies)
+IsLate status work = (status ≡ 4) ⊎ (status ≡ 5) ⊎ ((status ≡ 3) × work.verifies) ⊎ ((status ≡ 1) × work.replays)
 
--- A command with `--progress` printed its progress lines up to some part of its work: a line after each part that
--- completes another hundredth. Its error has this status.
-pub record ReportsReached (words : List (List ℕ)) (held : Held) (status : ℕ) (before after : Output) : Type 0 where
+-- A command with `--progress` printed its progress lines, all or up to some part of its work. Its error has this status.
+pub record ReportsReached (words : List (List ℕ)) (held : Held) (out out' : Output) (status : ℕ) (before after : Output) : Type 0 where
   pub c : CommandView
   pub named : IsCommand words c
-  pub late : IsLate status (work_of held c)
-  pub wanted : (work_of held c).progress ≡ true
-  pub all : ℕ
-  pub work : (work_of held c).all all
-  pub made : ℕ
-  pub reached : made ≤ all
-  pub told : PrintsProgress (work_of held c).word all before after (hundredths_behind all 0 made)
+  pub late : IsLate status (work_of held out out' c)
+  pub wanted : (work_of held out out' c).progress ≡ true
+  pub lines : List (List ℕ)
+  pub reached : (work_of held out out' c).whole lines ⊎ ((made : ℕ) × (work_of held out out' c).part made lines)
+  pub told : PrintsEach lines before after
 
 -- Standard error on failure: the text of the error, as far as it was accepted. A command with `--progress` may have
--- printed progress lines before the text (`IsLate`), but not before an error that rejects data or arguments. Rejected
--- code is reported after the progress of its verification in `check` and `curve`, and without progress in others.
-abbrev pub PrintsError : List (List ℕ) → Held → (status : ℕ) → (before after : Output) → List ℕ → Type 0
-PrintsError words held status before after text = Prints before after text
-    ⊎ ((between : Output) × ReportsReached words held status before between × PrintsIfCounted between after text)
+-- printed progress lines before the text (`IsLate`), but not before an error that rejects arguments or, except of a
+-- replayed stream, data. Rejected code is reported after the progress of its verification in `check` and `curve`, and
+-- without progress in others.
+abbrev pub PrintsError : List (List ℕ) → Held → (out out' : Output) → (status : ℕ) → (before after : Output) → List ℕ → Type 0
+PrintsError words held out out' status before after text = Prints before after text
+    ⊎ ((between : Output) × ReportsReached words held out out' status before between × PrintsIfCounted between after text)
 
 -- ---- the answer of the program
 
@@ -244,11 +230,11 @@ pub record IsAnswer (words : List (List ℕ)) (held : Held) (requested requested
   pub most : status ≤ 5
   -- Status 0 means success: the arguments were carried out, and standard error has at most progress lines.
   pub done : status ≡ 0 → IsDone words held requested requested' out out'
-  pub quiet : status ≡ 0 → IsQuiet words held err err'
+  pub quiet : status ≡ 0 → IsQuiet words held out out' err err'
   -- Any other status means failure: the text of an error was printed, as far as standard error accepted it. Standard
   -- output is unchanged, unless a write to it failed, or memory ran out (4) in a command that prints frames, states or
   -- table rows, or the command reads a stream. What is printed in these cases is stated by the second half, `IsFailure`.
-  pub said : status ≢ 0 → (text : List ℕ) × IsSaid status text × PrintsError words held status err err' text
+  pub said : status ≢ 0 → (text : List ℕ) × IsSaid status text × PrintsError words held out out' status err err' text
   pub kept : status ≢ 0 → IsKept out out' ⊎ ((c : CommandView) × IsCommand words c × OfTask held c (PrintsBefore status))
   -- Status 2 means that the arguments name no command, and aren't answered with help or the version. Standard output is
   -- unchanged.

@@ -216,20 +216,21 @@ abbrev pub ReportsTexts : (every : Option ℕ) → Work → (before after : Outp
 ReportsTexts None work before after = ReportsAll work before after
 ReportsTexts (Some k) work before after = (count : ℕ) × ReportsDone work (count * k) before after
 
--- Progress lines before an error in the work of `check` or `curve`: those of some number of parts. The other commands
--- printed none.
-abbrev pub ReportsSome : Work → (before after : Output) → Type 0
-ReportsSome work before after = (after ≡ before) ⊎ (work.verifies × ((done : ℕ) × ReportsDone work done before after))
+-- Progress lines before an error in a work that `May` have some then, such as that of `check`, `curve` (`verifies`) or
+-- `replay` (`replays`): those of some number of parts, which in a replay match standard output (`replay_work`). The other
+-- commands printed none.
+abbrev pub ReportsSome : (May : Type 0) → Work → (before after : Output) → Type 0
+ReportsSome May work before after = (after ≡ before) ⊎ (May × ((done : ℕ) × ReportsDone work done before after))
 
 -- ---- the five failures
 
 -- One use of the program up to the text of its error: arguments, files, requested paths before and after, standard
 -- output before and after, and standard error before and with its progress lines.
 module _ (words : List (List ℕ)) (held : Held) (requested requested' : Paths) (out out' err between : Output) where
-  -- The command requested all its files, and rejects their data. It printed no progress.
+  -- The command requested all its files, and rejects their data. It printed no progress, except of a replayed stream.
   abbrev pub IsRejected : Type 0
   IsRejected = (c : CommandView) × IsCommand words c × OfTask held c (λ task. RejectsData task out out')
-      × (requested' ≡ requested_by requested c) × (between ≡ err)
+      × (requested' ≡ requested_by requested c) × ReportsSome (work_of held out out' c).replays (work_of held out out' c) err between
 
   -- The arguments name no command. No file was requested, and nothing printed.
   abbrev pub IsMisused : Type 0
@@ -238,28 +239,35 @@ module _ (words : List (List ℕ)) (held : Held) (requested requested' : Paths) 
   -- The command requested all its files, and rejects code. Only progress lines were printed.
   abbrev pub IsCodeRejected : Type 0
   IsCodeRejected = (c : CommandView) × IsCommand words c × OfTask held c RejectsCode
-      × (requested' ≡ requested_by requested c) × (out' ≡ out) × ReportsSome (work_of held c) err between
+      × (requested' ≡ requested_by requested c) × (out' ≡ out)
+      × ReportsSome (work_of held out out' c).verifies (work_of held out out' c) err between
 
   -- A write to standard output failed: in a command, or in the text of the help or the version.
   abbrev pub IsOutputFailed : Type 0
   IsOutputFailed = (BeginsWish words out out' × (requested' ≡ requested) × (between ≡ err))
       ⊎ ((c : CommandView) × IsCommand words c × (requested' ≡ requested_by requested c) × OfTask held c (λ task. BeginsOutput task out out')
-      × ReportsTexts (work_of held c).every (work_of held c) err between)
+      × ReportsTexts (work_of held out out' c).every (work_of held out out' c) err between)
 
-  -- Memory ran out: after some steps of a run; or in the work of `check` or `curve`; or before any step and any output;
-  -- or for the text of another error, of which a failed write has left a prefix of the output.
+  -- Memory ran out: after some steps of a run or of a replay; or in the work of `check` or `curve`; or before any step and
+  -- any output; or for the text of another error, of which a failed write has left a prefix of the output.
   abbrev pub IsOutOfMemory : Type 0
   IsOutOfMemory = ((c : CommandView) × IsCommand words c × (requested' ≡ requested_by requested c)
-      × ((done : ℕ) × OfTask held c (λ task. LeavesTexts task done out out') × ReportsDone (work_of held c) done err between))
-      ⊎ ((out' ≡ out) × ((between ≡ err) ⊎ ((c : CommandView) × IsCommand words c × ReportsSome (work_of held c) err between)))
+      × ((done : ℕ) × OfTask held c (λ task. LeavesTexts task done out out')
+      × (ReportsDone (work_of held out out' c) done err between
+      ⊎ ReportsSome (work_of held out out' c).replays (work_of held out out' c) err between)))
+      ⊎ ((out' ≡ out) × ((between ≡ err) ⊎ ((c : CommandView) × IsCommand words c
+      × ReportsSome ((work_of held out out' c).verifies ⊎ (work_of held out out' c).replays) (work_of held out out' c) err between)))
       ⊎ IsOutputFailed
 
   -- A file of the command can't be read, and nothing was printed; or a stream can't be read on, behind the texts of the
-  -- states that were; or a write to standard output failed.
+  -- states that were; or a write to standard output failed. A replay may have printed progress lines: the bytes of a stream
+  -- that can't be read on are unknown, so this page can't tell it from a file that can't be read.
   abbrev pub IsFileFailed : Type 0
-  IsFileFailed = ((c : CommandView) × IsCommand words c × LacksFile held c requested requested' × (out' ≡ out) × (between ≡ err))
+  IsFileFailed = ((c : CommandView) × IsCommand words c × LacksFile held c requested requested' × (out' ≡ out)
+      × ReportsSome (work_of held out out' c).replays (work_of held out out' c) err between)
       ⊎ ((c : CommandView) × IsCommand words c × (requested' ≡ requested_by requested c)
-      × OfTask held c (λ task. LosesStream held task out out') × (between ≡ err))
+      × OfTask held c (λ task. LosesStream held task out out')
+      × ReportsSome (work_of held out out' c).replays (work_of held out out' c) err between)
       ⊎ IsOutputFailed
 
 -- How the program fails, by its exit status. The text of the error was printed after the progress lines, as far as

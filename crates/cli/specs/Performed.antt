@@ -1,5 +1,5 @@
 -- Results of commands: the output on success, or the fault and the output on failure.
-use Rattle.std.specs.Prelude.{◌≡◌, ◌⊎◌, ℕ, suc, Bool, List, [], ◌∷◌, Result, codes}
+use Rattle.std.specs.Prelude.{◌≡◌, ◌⊎◌, ℕ, suc, Bool, List, [], ◌∷◌, Result}
 use Rattle.std.specs.Result.{MatchResult}
 use Rattle.clap.specs.declared.error.kind.ErrorKind.{ErrorKind}
 use Rattle.clap.specs.declared.error.kind.ErrorKind.TheVariants.{DisplayHelp, DisplayVersion}
@@ -11,12 +11,12 @@ use Rattle.fallible.specs.Out.{Appends, Output}
 use Rattle.runs.specs.Plans.{PlanView, last_text, steps_made}
 use Rattle.runs.specs.Shown.{HasShown, IsUnshown}
 use Rattle.runs.specs.Visits.{IsShownOfRun, Showing}
-use Rattle.runs.specs.Watching.{Report, counts_of}
+use Rattle.runs.specs.Watching.{Report}
 use Rattle.runs.specs.declared.faults.RunFault.{RunFault}
 use Rattle.cli.specs.Actions.{Action, Contents, Held, OfFiles, Paths, action_of, all_requested, work_of}
 use Rattle.cli.specs.Command.{HasPrinted, PrintsSome, version_line}
 use Rattle.cli.specs.Failures.{fault_of_run}
-use Rattle.cli.specs.Progress.{ReportsBefore, ReportsIf}
+use Rattle.cli.specs.Progress.{ReportsBefore, ReportsSteps}
 use Rattle.cli.specs.Refusals.{IsTaskUndone, IsTextUnwritten, IsUnanswered, IsUndone, IsUnreadOf}
 use Rattle.cli.specs.declared.faults.CommandFault.{CommandFault}
 use Rattle.cli.specs.declared.faults.CommandFault.TheVariants as fault
@@ -31,11 +31,6 @@ WritesText Why HasText before after result =
 -- the result of writing this text, for which memory may run out before the write
 abbrev pub WritesLine : {T A : Type 0} → List ℕ → (before after : Output) → Result T (CommandFault A) → Type 0
 WritesLine text before after result = WritesText (λ f. f ≡ fault.Memory) (λ Wrote. Wrote text) before after result
-
--- The reports of a run's progress as lines on standard error, if `progress` is true. Otherwise standard error is
--- unchanged.
-abbrev pub ReportsSteps : (progress : Bool) → PlanView → (before after : Output) → List Report → Type 0
-ReportsSteps progress plan before after reports = ReportsIf progress (codes "steps") (steps_made plan) before after (counts_of reports)
 
 -- All texts of a plan were printed, for the states of a run, with all reports of progress (`told`), each in time.
 abbrev pub PrintsShown : Showing → (job state : List ℕ) → PlanView → (before after : Output)
@@ -74,8 +69,8 @@ abbrev pub ShowsFiles : {T A : Type 0} → Held → (requested requested' : Path
     → (progress : Bool) → PlanView → (out out' err err' : Output) → Result T (CommandFault A) → Type 0
 ShowsFiles held requested requested' job state Shows progress plan out out' err err' result =
     EndsWith held (job ∷ state ∷ []) requested requested' ((out' ≡ out) × (err' ≡ err))
-    (λ c. PrintsShown Shows c.0 c.1.0 plan out out' (ReportsSteps progress plan err err'))
-    (λ c f. StopsShown Shows c.0 c.1.0 plan out out' (ReportsSteps progress plan err err') f) result
+    (λ c. PrintsShown Shows c.0 c.1.0 plan out out' (ReportsSteps progress err err'))
+    (λ c f. StopsShown Shows c.0 c.1.0 plan out out' (ReportsSteps progress err err') f) result
 
 -- help or the version was printed to standard output, as the kind of the parser's error requests
 abbrev pub HasAnswered : ErrorKind → (before after : Output) → Type 0
@@ -88,4 +83,4 @@ abbrev pub EndsIn : {A : Type 0} → List (List ℕ) → Held → (requested req
 EndsIn words held requested requested' out out' err err' f =
     (IsUnanswered words out out' f × (requested' ≡ requested) × (err' ≡ err))
     ⊎ ((c : CommandView) × IsCommand words c × IsUndone held requested requested' (action_of c) out out' f
-    × ReportsBefore (work_of held c) err err' f)
+    × ReportsBefore (work_of held out out' c) err err' f)

@@ -1,5 +1,5 @@
 -- Progress lines: which ones a command prints before it ends, with success or with a fault.
-use Rattle.std.specs.Prelude.{◌≡◌, ◌⊎◌, ◌+◌, ◌≤◌, ℕ, List, [], ◌∷◌, ◌++◌, Bool, true, false, Result, codes}
+use Rattle.std.specs.Prelude.{◌≡◌, ◌⊎◌, ◌+◌, ◌≤◌, ℕ, List, [], ◌∷◌, ◌++◌, Bool, true, false, Result, codes, map}
 use Rattle.std.proofs.Common.{arith, refl, subst, sym}
 use Rattle.std.proofs.lemmas.List.{map-append}
 use Rattle.std.specs.Result.{MatchResult}
@@ -8,11 +8,11 @@ use Rattle.fallible.specs.Out.{Output}
 use Rattle.integrator.specs.declared.faults.StepFault.TheVariants as step
 use Rattle.command_line.specs.Commands.{CommandView}
 use Rattle.command_line.specs.CommandLine.{IsCommand}
-use Rattle.cli.specs.Actions.{Held, Work, work_of}
-use Rattle.cli.specs.Command.{PrintsIfCounted, PrintsProgress, ReportsAll, ReportsDone}
+use Rattle.cli.specs.Actions.{Held, Work, report_line, work_of}
+use Rattle.cli.specs.Command.{PrintsEach, PrintsIfCounted, PrintsProgress, ReportsAll, ReportsDone}
 use Rattle.cli.specs.CommandFailure.{ReportsSome, ReportsTexts}
 use Rattle.cli.specs.Reports.{IsReported}
-use Rattle.runs.specs.Watching.{Report, counts_of, hundredths, hundredths_behind}
+use Rattle.runs.specs.Watching.{Report, hundredths, hundredths_behind}
 use Rattle.runs.proofs.HundredthLaws.{hundredths-add, hundredths-zero}
 use Rattle.cli.specs.declared.faults.CommandFault.{CommandFault}
 use Rattle.cli.specs.declared.faults.CommandFault.TheVariants as fault
@@ -21,33 +21,39 @@ use Rattle.cli.specs.declared.progress.Counted.TheVariants as counted
 
 -- ---- before a fault
 
--- Progress lines of a work before this fault. If memory ran out after some steps, the output failed, or code was
--- rejected, the lines are as the command specification says. Before any other fault the output is unchanged.
+-- Progress lines of a work before this fault. If memory ran out after some steps, the output failed, code was rejected,
+-- or a stream ended with a fault, the lines are as the command specification says. Before any other fault the output is
+-- unchanged.
 abbrev pub ReportsBefore : {A : Type 0} → Work → (before after : Output) → CommandFault A → Type 0
 ReportsBefore work before after (fault.Steps (step.Memory done)) = ReportsDone work done before after
 ReportsBefore work before after (fault.Out o) = ReportsTexts work.every work before after
-ReportsBefore work before after (fault.Rejected (input.Energy f)) = ReportsSome work before after
-ReportsBefore work before after fault.Memory = ReportsSome work before after
+ReportsBefore work before after (fault.Rejected (input.Energy f)) = ReportsSome work.verifies work before after
+ReportsBefore work before after fault.Memory = ReportsSome (work.verifies ⊎ work.replays) work before after
+ReportsBefore work before after (fault.CannotRead path) = ReportsSome work.replays work before after
+ReportsBefore work before after (fault.InState number (input.Energy f)) = after ≡ before
+ReportsBefore work before after (fault.InState number f) = ReportsSome work.replays work before after
+ReportsBefore work before after (fault.NotOneRun segments) = ReportsSome work.replays work before after
 ReportsBefore work before after _ = after ≡ before
 
 -- the progress lines of a work that ended with this result: all of them on success, otherwise those before the fault
 abbrev pub Reports : {T A : Type 0} → Work → (before after : Output) → Result T (CommandFault A) → Type 0
 Reports work before after result = MatchResult result (λ _. ReportsAll work before after) (ReportsBefore work before after)
 
--- Standard error before the text of a fault: only the progress lines of the command. It is unchanged if the arguments
--- name no command, and may be unchanged if memory ran out.
-abbrev pub IsBegun : {A : Type 0} → List (List ℕ) → Held → CommandFault A → (before after : Output) → Type 0
-IsBegun words held f before after = ((after ≡ before) × ((f ≡ fault.Memory) ⊎ ((c : CommandView) → IsCommand words c → ⊥)))
-    ⊎ ((c : CommandView) × IsCommand words c × ReportsBefore (work_of held c) before after f)
+-- Standard error before the text of a fault, with standard output before and after: only the progress lines of the
+-- command. Standard error is unchanged if the arguments name no command, and may be unchanged if memory ran out.
+abbrev pub IsBegun : {A : Type 0} → List (List ℕ) → Held → (out out' : Output) → CommandFault A → (before after : Output) → Type 0
+IsBegun words held out out' f before after = ((after ≡ before) × ((f ≡ fault.Memory) ⊎ ((c : CommandView) → IsCommand words c → ⊥)))
+    ⊎ ((c : CommandView) × IsCommand words c × ReportsBefore (work_of held out out' c) before after f)
 
 -- standard error after a fault: the progress lines before the fault (`IsBegun`), then this text
-abbrev pub SaysBehind : {A : Type 0} → List (List ℕ) → Held → CommandFault A → (before after : Output) → List ℕ → Type 0
-SaysBehind words held f before after text =
-    (between : Output) × IsBegun words held f before between × PrintsIfCounted between after text
+abbrev pub SaysBehind : {A : Type 0} → List (List ℕ) → Held → (out out' : Output) → CommandFault A → (before after : Output) → List ℕ
+    → Type 0
+SaysBehind words held out out' f before after text =
+    (between : Output) × IsBegun words held out out' f before between × PrintsIfCounted between after text
 
 -- the fault was reported with this status and a text on standard error, after the progress lines before it
-abbrev pub IsTold : {A : Type 0} → List (List ℕ) → Held → CommandFault A → ℕ → (before after : Output) → Type 0
-IsTold words held f result before after = IsReported f result (SaysBehind words held f before after)
+abbrev pub IsTold : {A : Type 0} → List (List ℕ) → Held → (out out' : Output) → CommandFault A → ℕ → (before after : Output) → Type 0
+IsTold words held out out' f result before after = IsReported f result (SaysBehind words held out out' f before after)
 
 -- ---- watchers
 
@@ -83,16 +89,36 @@ reports_both : (progress : Bool) (word : List ℕ) (all : ℕ) (first more : Lis
 reports_both true word all first more before between after begun ended = prints_more word all first more before between after begun ended
 reports_both false word all first more before between after begun ended = subst (λ o. after ≡ o) begun ended
 
--- the same for equal flags and numbers of steps
-pub reports_more : (progress progress' : Bool) (word : List ℕ) (steps steps' : ℕ) (first more : List Report) (before between after : Output)
-    → progress' ≡ progress → steps' ≡ steps → ReportsIf progress word steps before between (counts_of first)
-    → ReportsIf progress' word steps' between after (counts_of more)
-    → ReportsIf progress word steps before after (counts_of (first ++ more))
-reports_more progress progress' word steps steps' first more before between after same same' begun ended =
-    subst (ReportsIf progress word steps before after) (sym (map-append (λ (r : Report). r.done) first more))
-    (reports_both progress word steps (counts_of first) (counts_of more) before between after begun
-    (subst (λ n. ReportsIf progress word n between after (counts_of more)) same'
-    (subst (λ p. ReportsIf p word steps' between after (counts_of more)) same ended)))
+-- the lines of these reports were printed if the flag is true; otherwise the output is unchanged
+abbrev pub ReportsSteps : (progress : Bool) → (before after : Output) → List Report → Type 0
+ReportsSteps true before after reports = PrintsEach (map report_line reports) before after
+ReportsSteps false before after reports = after ≡ before
+
+-- without reports the output is unchanged
+pub no_steps : (progress : Bool) (o : Output) → ReportsSteps progress o o []
+no_steps true o = refl
+no_steps false o = refl
+
+-- lines, and then more lines
+pub each_more : (first more : List (List ℕ)) (before between after : Output) → PrintsEach first before between
+    → PrintsEach more between after → PrintsEach (first ++ more) before after
+each_more [] more before between after begun ended = subst (λ o. PrintsEach more o after) begun ended
+each_more (line ∷ lines) more before between after begun ended =
+    (begun.0, begun.1, each_more lines more begun.0 between after begun.2 ended)
+
+steps_both : (progress : Bool) (first more : List Report) (before between after : Output) → ReportsSteps progress before between first
+    → ReportsSteps progress between after more → ReportsSteps progress before after (first ++ more)
+steps_both true first more before between after begun ended =
+    subst (λ lines. PrintsEach lines before after) (sym (map-append report_line first more))
+    (each_more (map report_line first) (map report_line more) before between after begun ended)
+steps_both false first more before between after begun ended = subst (λ o. after ≡ o) begun ended
+
+-- the same for equal flags
+pub reports_more : (progress progress' : Bool) (first more : List Report) (before between after : Output) → progress' ≡ progress
+    → ReportsSteps progress before between first → ReportsSteps progress' between after more
+    → ReportsSteps progress before after (first ++ more)
+reports_more progress progress' first more before between after same begun ended =
+    steps_both progress first more before between after begun (subst (λ p. ReportsSteps p between after more) same ended)
 
 -- the word for these parts in a progress line
 abbrev pub word_for : Counted → List ℕ

@@ -60,7 +60,8 @@ pub fn execute<
     // On failure: the fault, which the exit status and standard error report.
     ensures undone { result ≢ 0 → (f : CommandFault A) × IsFaultOf (map S.text words.now) (F.held files.old)
         (F.requested files.old) (F.requested files.new) (O.output out.old) (O.output out.new) f
-        × IsTold (map S.text words.now) (F.held files.old) f result (E.output err.old) (E.output err.new) }
+        × IsTold (map S.text words.now) (F.held files.old) (O.output out.old) (O.output out.new) f result
+        (E.output err.old) (E.output err.new) }
 {
     match respond(rt, words_alloc, alloc, words, files, out, err) {
         Ok(()) => Status::Done.code(),
@@ -93,7 +94,8 @@ fn respond<
     requires { (O.output out.old).failed < 2 ^ 64 - 1 }
     ensures undone { IfErr result (EndsIn (map S.text words.entry.now) (F.held files.old) (F.requested files.old) (F.requested files.new)
         (O.output out.old) (O.output out.new) (E.output err.old) (E.output err.new)) }
-    ensures quiet { OnOk result (IsQuiet (map S.text words.entry.now) (F.held files.old) (E.output err.old) (E.output err.new)) }
+    ensures quiet { OnOk result (IsQuiet (map S.text words.entry.now) (F.held files.old) (O.output out.old) (O.output out.new)
+        (E.output err.old) (E.output err.new)) }
     ensures done { OnOk result (IsDone (map S.text words.entry.now) (F.held files.old) (F.requested files.old) (F.requested files.new)
         (O.output out.old) (O.output out.new)) }
 {
@@ -115,14 +117,15 @@ fn perform<'a, R: Threads + Sync, A: Allocator + Copy + Send + Sync, F: Files, O
     requires { (O.output out.old).failed < 2 ^ 64 - 1 }
     ensures performs { Performs (F.held files.old) (F.requested files.old) (F.requested files.new)
         (action_of (command_view command.entry)) (O.output out.old) (O.output out.new) result }
-    ensures reports { Reports (work_of (F.held files.old) (command_view command.entry)) (E.output err.old) (E.output err.new) result }
+    ensures reports { Reports (work_of (F.held files.old) (O.output out.old) (O.output out.new) (command_view command.entry))
+        (E.output err.old) (E.output err.new) result }
 {
     match command {
         Command::Start(start) => perform_start(alloc, start, files, out),
         Command::Run(run) => perform_run(rt, alloc, &run, files, out, err),
         Command::Trajectory(v) => perform_visits(rt, alloc, &v, &mut FrameTexts, files, out, err),
         Command::States(v) => perform_visits(rt, alloc, &v, &mut StateTexts, files, out, err),
-        Command::Replay(replay) => perform_replay(rt, alloc, &replay, files, out),
+        Command::Replay(replay) => perform_replay(rt, alloc, &replay, files, out, err),
         Command::Observe(o) => {
             let mut rows = Rows::new(columns_of(o.table));
             perform_visits(rt, alloc, &o.visits, &mut rows, files, out, err)
@@ -207,7 +210,7 @@ fn perform_curve<'a, A: Allocator + Copy, F: Files, O: Out, E: Out>(
     requires { (O.output out.old).failed < 2 ^ 64 - 1 }
     ensures performs { Performs (F.held files.old) (F.requested files.old) (F.requested files.new)
         (action_of (command_view (Command.Curve curve.entry))) (O.output out.old) (O.output out.new) result }
-    ensures reports { Reports (work_of (F.held files.old) (command_view (Command.Curve curve.entry)))
+    ensures reports { Reports (work_of (F.held files.old) (O.output out.old) (O.output out.new) (command_view (Command.Curve curve.entry)))
         (E.output err.old) (E.output err.new) result }
 {
     let job = read(alloc, curve.job, files)?;

@@ -3,9 +3,9 @@
 ghost use Rattle.std.specs.Prelude.{◌≡◌, ◌≤◌, ◌+◌, ◌∷◌, [], refl, length};
 ghost use Rattle.std.proofs.Common.{◌∙◌};
 ghost use Rattle.cli.specs.Command.{PrintsProgress};
-ghost use Rattle.cli.specs.Progress.{Passes, ReportsIf, passes_more, passes_none, reports_more, reports_none, word_for};
+ghost use Rattle.cli.specs.Progress.{Passes, ReportsSteps, no_steps, passes_more, passes_none, reports_more, word_for};
 ghost use Rattle.cli.specs.declared.progress.Counted.TheVariants as counted;
-ghost use Rattle.runs.specs.Watching.{counts_of, hundredths_behind};
+ghost use Rattle.runs.specs.Watching.{hundredths_behind};
 
 use fallible::{Out, write_all};
 use line_text::{Line, put, put_integer};
@@ -42,34 +42,30 @@ fn word(counted: Counted) -> &'static [u8]
 #[derive(Drop)]
 pub(crate) struct ProgressLines<'a, E: Out> {
     pub(crate) err: &'a mut E,
-    pub(crate) steps: u64,
     pub(crate) progress: bool,
 }
 
-/// A later value of a watcher has the output, the number of steps and the option of the earlier value.
+/// A later value of a watcher has the output and the option of the earlier value.
 impl<'a, E: Out> Watch for ProgressLines<'a, E> {
     ghost told = { λ before after reports. (after.err.ghost_name ≡ before.err.ghost_name)
-        × (after.steps ≡ before.steps) × (after.progress ≡ before.progress)
-        × ReportsIf before.progress (word_for counted.Steps) before.steps
-        (E.output before.err.now) (E.output after.err.now) (counts_of reports) };
+        × (after.progress ≡ before.progress)
+        × ReportsSteps before.progress (E.output before.err.now) (E.output after.err.now) reports };
 
-    ghost told_nothing = { λ w. (refl, refl, refl, reports_none w.progress (word_for counted.Steps) w.steps _) };
+    ghost told_nothing = { λ w. (refl, refl, no_steps w.progress _) };
 
     ghost told_more = { λ u v w first more begun ended. (
       ended.0 ∙ begun.0,
       ended.1 ∙ begun.1,
-      ended.2 ∙ begun.2,
-      reports_more u.progress v.progress (word_for counted.Steps) u.steps v.steps first more _ _ _
-          begun.2 begun.1 begun.3 ended.3,
+      reports_more u.progress v.progress first more _ _ _ begun.1 begun.2 ended.2,
     ) };
 
     fn watches(&self) -> bool {
         self.progress
     }
 
-    fn tell<O: Out>(&mut self, done: u64, _out: &O) {
+    fn tell<O: Out>(&mut self, done: u64, all: u64, _out: &O) {
         if self.progress {
-            write_progress(self.err, Counted::Steps, done, self.steps);
+            write_progress(self.err, Counted::Steps, done, all);
         }
     }
 }

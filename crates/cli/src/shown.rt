@@ -4,8 +4,8 @@ ghost use Rattle.std.specs.Prelude.{◌≡◌, ◌<◌, ◌-◌, ◌^◌};
 ghost use Rattle.command_line.specs.Views.{command_view, visits_view};
 ghost use Rattle.command_line.specs.declared.commands.Command.{Command};
 ghost use Rattle.cli.specs.Actions.{action_of, visits_action, visits_work, work_of};
-ghost use Rattle.cli.specs.Performed.{Performs, ReportsSteps, ShowsFiles};
-ghost use Rattle.cli.specs.Progress.{Reports};
+ghost use Rattle.cli.specs.Performed.{Performs, ShowsFiles};
+ghost use Rattle.cli.specs.Progress.{Reports, ReportsSteps};
 ghost use Rattle.cli.specs.StreamTexts.{columns_of};
 ghost use Rattle.runs.specs.Shown.{RunsShown};
 
@@ -63,7 +63,7 @@ pub(crate) fn perform_run<
     requires { (O.output out.old).failed < 2 ^ 64 - 1 }
     ensures performs { Performs (F.held files.old) (F.requested files.old) (F.requested files.new)
         (action_of (command_view (Command.Run run.now))) (O.output out.old) (O.output out.new) result }
-    ensures reports { Reports (work_of (F.held files.old) (command_view (Command.Run run.now)))
+    ensures reports { Reports (work_of (F.held files.old) (O.output out.old) (O.output out.new) (command_view (Command.Run run.now)))
         (E.output err.old) (E.output err.new) result }
 {
     let plan = Plan::of_end(run.direction, run.steps, Workers::new(run.workers));
@@ -142,15 +142,10 @@ fn show_texts<'a, R: Threads + Sync, A: Allocator + Copy + Send + Sync, S: Show<
 ) -> Result<(), RunFault<InputFault<A>>>
     requires { (O.output out.old).failed < 2 ^ 64 - 1 }
     ensures { RunsShown (S.shows show.old) texts.entry.0.now texts.entry.1.now shown.now.plan (O.output out.old) (O.output out.new)
-        (ReportsSteps shown.now.run.progress shown.now.plan (E.output err.old) (E.output err.new)) result }
+        (ReportsSteps shown.now.run.progress (E.output err.old) (E.output err.new)) result }
 {
-    let steps = shown.plan.made();
     let progress = shown.run.progress;
-    let mut watch = ProgressLines {
-        err,
-        steps,
-        progress,
-    };
+    let mut watch = ProgressLines { err, progress };
     let (job, state) = texts;
     run_shown(rt, alloc, job, state, &shown.plan, show, &mut watch, out)
 }

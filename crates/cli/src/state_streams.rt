@@ -5,50 +5,91 @@ ghost use Rattle.std.specs.Result.{result_map_both};
 ghost use Rattle.command_line.specs.Views.{command_view, replay_view};
 ghost use Rattle.command_line.specs.declared.commands.Command.{Command};
 ghost use Rattle.command_line.specs.declared.commands.EachOutput.{EachOutput};
-ghost use Rattle.cli.specs.Actions.{action_of, stream_action};
+ghost use Rattle.cli.specs.Actions.{action_of, stream_action, work_of};
 ghost use Rattle.cli.specs.Failures.{fault_of_stream};
 ghost use Rattle.cli.specs.Performed.{Performs};
+ghost use Rattle.cli.specs.Progress.{Reports, ReportsSteps};
 ghost use Rattle.cli.specs.StreamTexts.{plan_of_replay, shows_of};
 ghost use Rattle.streams.specs.Plans.{replay_plan_view};
-ghost use Rattle.streams.specs.Streams.{shown_by};
+ghost use Rattle.streams.specs.Replays.{replayed_by};
+ghost use Rattle.streams.specs.Streams.{WritesStream, shown_by};
+ghost use Rattle.streams.specs.Watched.{IsWatched};
 
 use crate::faults::CommandFault;
 use crate::files::{Files, open, read};
+use crate::progress::ProgressLines;
 use crate::shown::columns_of;
 use command_line::{Each, EachOutput, Quantity, Replay};
 use engine::InputFault;
 use fallible::Out;
 use integrator::Workers;
 use runs::{FrameTexts, Rows, Show};
+use state::Lines;
 use std::alloc::Allocator;
 use std::thread::Threads;
 use streams::{
     EnergyTexts, ForceTexts, ReplayPlan, StreamFault, VelocityTexts, replay_states, show_states,
 };
 
-/// Reads the job, opens the stream, and prints a line for each replayed segment as it is done.
+/// Reads the job, opens the stream, and prints a line for each replayed segment as it is done. With `--progress` it
+/// reports each hundredth of the steps of a segment.
 pub(crate) fn perform_replay<
     'a,
     R: Threads + Sync,
     A: Allocator + Copy + Send + Sync,
     F: Files,
     O: Out,
+    E: Out,
 >(
     rt: &R,
     alloc: A,
     replay: &Replay<'a>,
     files: &mut F,
     out: &mut O,
+    err: &mut E,
 ) -> Result<(), CommandFault<'a, A>>
     requires { (O.output out.old).failed < 2 ^ 64 - 1 }
-    ensures { Performs (F.held files.old) (F.requested files.old) (F.requested files.new)
+    ensures performs { Performs (F.held files.old) (F.requested files.old) (F.requested files.new)
         (action_of (command_view (Command.Replay replay.now))) (O.output out.old) (O.output out.new) result }
+    ensures reports { Reports (work_of (F.held files.old) (O.output out.old) (O.output out.new) (command_view (Command.Replay replay.now)))
+        (E.output err.old) (E.output err.new) result }
 {
     let plan = plan_of(replay);
     let job = read(alloc, replay.job, files)?;
     let mut lines = open(replay.states, files)?;
-    let replayed = replay_states(rt, alloc, &job, &mut lines, &plan, out);
+    let replayed = replay_lines(
+        rt,
+        alloc,
+        &job,
+        &mut lines,
+        &plan,
+        replay.progress,
+        out,
+        err,
+    );
     stream_result(replayed, replay.states)
+}
+
+/// Replays the stream that a source reads under a job, and prints a line for each replayed segment. It reports progress
+/// if it is wanted.
+fn replay_lines<R: Threads + Sync, A: Allocator + Copy + Send + Sync, L: Lines, O: Out, E: Out>(
+    rt: &R,
+    alloc: A,
+    job: &[u8],
+    lines: &mut L,
+    plan: &ReplayPlan,
+    progress: bool,
+    out: &mut O,
+    err: &mut E,
+) -> Result<(), StreamFault<InputFault<A>>>
+    requires { (O.output out.old).failed < 2 ^ 64 - 1 }
+    ensures writes { WritesStream (replayed_by (replay_plan_view plan.now) job.now) job.now (L.left lines.old)
+        (O.output out.old) (O.output out.new) result }
+    ensures watched { IsWatched (replay_plan_view plan.now) job.now (L.left lines.old) (O.output out.old)
+        (O.output out.new) (ReportsSteps progress (E.output err.old) (E.output err.new)) result }
+{
+    let mut watch = ProgressLines { err, progress };
+    replay_states(rt, alloc, job, lines, plan, &mut watch, out)
 }
 
 /// The plan of a replay that these arguments name.

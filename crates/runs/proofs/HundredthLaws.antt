@@ -11,9 +11,9 @@ use Rattle.integrator.specs.Forces.{numbers_from}
 use Rattle.fallible.specs.Out.{Output}
 use Rattle.runs.specs.Watching.{IsNextHundredth, Report, complete, completes, counts_of, hundredths_behind, reports_at}
 
--- a report of this number of steps
-abbrev report : Output → ℕ → Report
-report o done = record { done = done; output = o }
+-- a report of this number of n steps
+abbrev report : Output → (n done : ℕ) → Report
+report o n done = record { done = done; all = n; output = o }
 
 -- ---- numbers in order
 
@@ -86,16 +86,16 @@ no_more_hundredth n first made more k h few =
 
 -- Extending a stretch up to the next hundredth adds one report.
 pub one_more_report : (o : Output) (n first made more : ℕ) → IsNextHundredth n (first + made) more
-    → reports_at o (hundredths_behind n first (made + more))
-    ≡ reports_at o (hundredths_behind n first made) ++ report o (first + made + more) ∷ []
+    → reports_at o n (hundredths_behind n first (made + more))
+    ≡ reports_at o n (hundredths_behind n first made) ++ report o n (first + made + more) ∷ []
 one_more_report o n first made more h =
-    ap (reports_at o) (one_more_hundredth n first made more h)
-    ∙ map-append (λ (done : ℕ). report o done) (hundredths_behind n first made) ((first + made + more) ∷ [])
+    ap (reports_at o n) (one_more_hundredth n first made more h)
+    ∙ map-append (λ (done : ℕ). report o n done) (hundredths_behind n first made) ((first + made + more) ∷ [])
 
 -- reports of numbers of steps are of these numbers
-pub counts_at : (o : Output) (counts : List ℕ) → counts_of (reports_at o counts) ≡ counts
-counts_at o [] = refl
-counts_at o (count ∷ counts) = ap (λ l. count ∷ l) (counts_at o counts)
+pub counts_at : (o : Output) (n : ℕ) (counts : List ℕ) → counts_of (reports_at o n counts) ≡ counts
+counts_at o n [] = refl
+counts_at o n (count ∷ counts) = ap (λ l. count ∷ l) (counts_at o n counts)
 
 numbers_all : (P : ℕ → Type 0) (i k : ℕ) → ((c : ℕ) → i ≤ c → c < i + k → P c) → All P (numbers_from i k)
 unfolding numbers_from
@@ -104,12 +104,12 @@ numbers_all P i (suc k) h = All-cons P i (numbers_from (suc i) k) (h i (omega ar
     (numbers_all P (suc i) k (λ c low high. h c (omega (arith, low)) (omega (arith, high))))
 
 -- A property of the reports at all steps of a stretch is a property of the reports at its hundredths.
-pub all_reports : (P : Report → Type 0) (o : Output) (n first k : ℕ) → ((c : ℕ) → first < c → c ≤ first + k → P (report o c))
-    → All P (reports_at o (hundredths_behind n first k))
+pub all_reports : (P : Report → Type 0) (o : Output) (n first k : ℕ) → ((c : ℕ) → first < c → c ≤ first + k → P (report o n c))
+    → All P (reports_at o n (hundredths_behind n first k))
 all_reports P o n first k h =
-    All-map P (λ (done : ℕ). report o done) (hundredths_behind n first k)
-    (All-filter (completes n) (λ (done : ℕ). P (report o done)) (numbers_from (suc first) k)
-    (numbers_all (λ (done : ℕ). P (report o done)) (suc first) k (λ c low high. h c (omega (arith, low)) (omega (arith, high)))))
+    All-map P (λ (done : ℕ). report o n done) (hundredths_behind n first k)
+    (All-filter (completes n) (λ (done : ℕ). P (report o n done)) (numbers_from (suc first) k)
+    (numbers_all (λ (done : ℕ). P (report o n done)) (suc first) k (λ c low high. h c (omega (arith, low)) (omega (arith, high)))))
 
 -- ---- the next one
 

@@ -58,7 +58,7 @@ module _ (P Q : ℕ → List ℕ → Type 0) (both : (i : ℕ) (t : List ℕ) �
   in_time_map : (plan : PlanView) (o : Output) (reports : List Report) → All (IsInTime P plan o) reports → All (IsInTime Q plan o) reports
   in_time_map plan o reports all i d below =
       let h = all i d below in
-      record { count = h.count; earlier = h.earlier; next = h.next; wrote = wrote_map h.count o _ h.wrote }
+      record { all = h.all; count = h.count; earlier = h.earlier; next = h.next; wrote = wrote_map h.count o _ h.wrote }
 
   -- If texts of one kind are texts of another, the first texts and their reports are of the other kind too.
   pub shown_map : (plan : PlanView) (count done : ℕ) (o m : Output) (told told' : List Report → Type 0)
@@ -126,21 +126,22 @@ module _ {W : Type 0} (told : W → W → List Report → Type 0) (nothing : (w 
   -- the reports of a stretch on the way to the next text are in time
   pub more_reports : (count first k : ℕ) (o m : Output) (u v w : W) → ((i : ℕ) → i < count → steps_to plan i ≤ first)
       → first + k ≤ steps_to plan count
-      → HasShown IsText plan count first o m (told u v) → told v w (reports_at m (hundredths_behind (steps_made plan) first k))
+      → HasShown IsText plan count first o m (told u v) → told v w (reports_at m (steps_made plan) (hundredths_behind (steps_made plan) first k))
       → HasShown IsText plan count (first + k) o m (told u w)
   more_reports count first k o m u v w earlier next h t =
       let n = steps_made plan in
-      let more = reports_at m (hundredths_behind n first k) in
+      let more = reports_at m n (hundredths_behind n first k) in
       record {
         wrote = h.wrote;
         reports = h.reports ++ more;
         counts =
             map-append (λ (r : Report). r.done) h.reports more ∙ ap (λ (l : List ℕ). l ++ counts_of more) h.counts
-            ∙ ap (λ (l : List ℕ). hundredths_behind n 0 first ++ l) (counts_at m (hundredths_behind n first k))
+            ∙ ap (λ (l : List ℕ). hundredths_behind n 0 first ++ l) (counts_at m n (hundredths_behind n first k))
             ∙ sym (hundredths-next n first k);
         in_time = All-append (IsInTime IsText plan o) h.reports more h.in_time
             (all_reports (IsInTime IsText plan o) m n first k (λ c low high.
             record {
+              all = refl;
               count = count;
               earlier = λ i few. let l = earlier i few in omega (arith, l, low);
               next = omega (arith, high, next);
@@ -164,7 +165,7 @@ module _ {W : Type 0} (told : W → W → List Report → Type 0) (nothing : (w 
   more_shown : (number first : ℕ) (o m r : Output) (u v w : W) → first ≤ steps_to plan number
       → ((i : ℕ) → i < number → steps_to plan i ≤ first)
       → HasShown IsText plan number first o m (told u v)
-      → told v w (reports_at m (hundredths_behind (steps_made plan) first (steps_to plan number - first)))
+      → told v w (reports_at m (steps_made plan) (hundredths_behind (steps_made plan) first (steps_to plan number - first)))
       → WroteText (IsText number) m r
       → HasShown IsText plan (suc number) (steps_to plan number) o r (told u w)
   more_shown number first o m r u v w few earlier h t text =
@@ -200,7 +201,7 @@ module _ (Shows Now : Showing) (same : IsShownBy Shows Now) (plan : PlanView) (e
     pub next_on_way : (number first : ℕ) (f : EngineView) (o m r : Output) (u v w : W) → first ≤ steps_to plan number
         → ((i : ℕ) → i < number → steps_to plan i ≤ first) → Advanced plan.direction (steps_to plan number) e f
         → HasShown OnWay plan number first o m (told u v)
-        → told v w (reports_at m (hundredths_behind (steps_made plan) first (steps_to plan number - first)))
+        → told v w (reports_at m (steps_made plan) (hundredths_behind (steps_made plan) first (steps_to plan number - first)))
         → WroteText (Now.texts f.job number f.state) m r → HasShown OnWay plan (suc number) (steps_to plan number) o r (told u w)
     next_on_way number first f o m r u v w within earlier went shown t text =
         more_shown told nothing both OnWay plan number first o m r u v w within earlier shown t (wrote_on_way number f m r went text)

@@ -67,10 +67,10 @@ abbrev pub BreaksOff : Showing → PlanView → (number first : ℕ) → (e f : 
     → (told : List Report → Type 0) → Halt → Type 0
 BreaksOff Shows plan number first e f before after told h =
     ((made : ℕ) × IsStopped plan.direction first (steps_to plan number - first) made e f h
-    × (after ≡ before) × told (reports_at before (hundredths_behind (steps_made plan) first made)))
+    × (after ≡ before) × told (reports_at before (steps_made plan) (hundredths_behind (steps_made plan) first made)))
     ⊎ (Advanced plan.direction (steps_to plan number - first) e f
     × FailsText (Shows.texts f.job number f.state) Shows.allocates (steps_to plan number) before after h
-    × told (reports_at before (hundredths_behind (steps_made plan) first (steps_to plan number - first))))
+    × told (reports_at before (steps_made plan) (hundredths_behind (steps_made plan) first (steps_to plan number - first))))
 
 -- ---- faults
 

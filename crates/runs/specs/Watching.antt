@@ -3,7 +3,7 @@
 use Rattle.std.specs.Prelude.{◌≡◌, ℕ, suc, ◌+◌, ◌-◌, ◌*◌, ◌/◌, ◌≤◌, ◌<◌, List, Bool, true, false, filter, ltb, map}
 use Rattle.fallible.specs.Out.{Output}
 use Rattle.integrator.specs.Forces.{numbers_from}
-use Rattle.runs.specs.Plans.{PlanView, steps_to}
+use Rattle.runs.specs.Plans.{PlanView, steps_made, steps_to}
 use Rattle.runs.specs.Visits.{WroteTexts}
 
 -- ---- hundredths
@@ -33,21 +33,24 @@ pub record IsNextHundredth (n first more : ℕ) : Type 0 where
 
 -- ---- reports
 
--- A report to a watcher: the number of steps that are made, and the output as it is then.
+-- A report to a watcher: the number of steps that are made, the number of all steps, and the output as it is then.
 pub record Report : Type 0 where
   pub done : ℕ
+  pub all : ℕ
   pub output : Output
 
 -- the numbers of steps of reports
 abbrev pub counts_of : List Report → List ℕ
 counts_of = map (λ (r : Report). r.done)
 
--- reports of these numbers of steps, all with the same output
-abbrev pub reports_at : Output → List ℕ → List Report
-reports_at output = map (λ (done : ℕ). record { done = done; output = output })
+-- reports of these numbers of n steps, all with the same output
+abbrev pub reports_at : Output → (n : ℕ) → List ℕ → List Report
+reports_at output n = map (λ (done : ℕ). record { done = done; all = n; output = output })
 
--- When the report came, the texts of all states before its step had been written, and no others.
+-- The report is of all steps of the plan. When it came, the texts of all states before its step had been written, and no
+-- others.
 pub record IsInTime (IsText : ℕ → List ℕ → Type 0) (plan : PlanView) (before : Output) (r : Report) : Type 0 where
+  pub all : r.all ≡ steps_made plan
   pub count : ℕ
   pub earlier : (k : ℕ) → k < count → steps_to plan k < r.done
   pub next : r.done ≤ steps_to plan count

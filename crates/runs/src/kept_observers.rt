@@ -39,7 +39,7 @@ impl<A: Allocator + Copy> KeptObserver<A> {
     ///
     /// `Refused`: the code of the energy itself would be too large, or the verifier rejects it. `Memory`: memory ran
     /// out.
-    pub fn begin(&mut self, engine: &Engine<A>) -> Result<(), Failure<EnergyFault<A>>>
+    pub fn prepare(&mut self, engine: &Engine<A>) -> Result<(), Failure<EnergyFault<A>>>
         requires typed { IsTyped engine.now }
         ensures ready { OnOk result (IsReady self.new engine.now) }
         ensures energy { OnOk result (HasEnergy engine.now) }
@@ -49,7 +49,7 @@ impl<A: Allocator + Copy> KeptObserver<A> {
         Ok(())
     }
 
-    /// The observer that `begin` made.
+    /// The observer that `prepare` made.
     pub fn observer(&self) -> &Observer<A>
         requires { is_some self.now ≡ true }
         ensures { self.now ≡ Some result.now }

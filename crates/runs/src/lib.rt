@@ -25,7 +25,7 @@ pub use plans::Plan;
 pub use rows::Rows;
 pub use showing::Show;
 pub use shown_runs::{run_bytes, run_shown};
-pub use stretches::until_hundredth;
+pub use stretches::{until_hundredth, watched_steps};
 pub use visits::visit;
 pub use watching::{Unwatched, Watch};
 pub use whole_states::StateTexts;

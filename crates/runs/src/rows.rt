@@ -53,8 +53,8 @@ impl<A: Allocator + Copy> Show<A> for Rows<A> {
 
     ghost is_for = { λ rows e. IsReady rows.observer e };
 
-    fn begin(&mut self, engine: &mut Engine<A>) -> Result<(), Failure<EnergyFault<A>>> {
-        self.observer.begin(engine)?;
+    fn prepare(&mut self, engine: &mut Engine<A>) -> Result<(), Failure<EnergyFault<A>>> {
+        self.observer.prepare(engine)?;
         Ok(())
     }
 
@@ -74,7 +74,7 @@ impl<A: Allocator + Copy> Show<A> for Rows<A> {
         Ok(())
     }
 
-    ghost goes_on = { λ rows direction steps e f went ready. ready_on rows.observer direction steps e f went ready };
+    ghost ready_after_steps = { λ rows direction steps e f went ready. ready_on rows.observer direction steps e f went ready };
 
-    ghost goes_to = { λ rows e f same typed ready. ready_to rows.observer e f same typed ready };
+    ghost ready_for_other_state = { λ rows e f same typed ready. ready_to rows.observer e f same typed ready };
 }

@@ -19,13 +19,13 @@ pub trait Show<A: Allocator + Copy> {
     /// How states are shown.
     ghost shows: { Self → Showing };
 
-    /// Whether the states of this engine can be shown, since `begin` has prepared for it.
+    /// Whether the states of this engine can be shown, since `prepare` has prepared for it.
     ghost is_for: { Self → EngineView → Type 0 };
 
     /// Prepares for the states of an engine. If their texts have energies, this makes the code of the energy itself.
     ///
     /// `Refused`: that code would be too large, or the verifier rejects it. `Memory`: memory ran out.
-    fn begin(&mut self, engine: &mut Engine<A>) -> Result<(), Failure<EnergyFault<A>>>
+    fn prepare(&mut self, engine: &mut Engine<A>) -> Result<(), Failure<EnergyFault<A>>>
         requires typed { IsTyped engine.old }
         ensures ready { OnOk result (is_for self.new engine.new) }
         ensures energy { OnOk result ((shows self.old).observes → HasEnergy engine.old) }
@@ -56,9 +56,9 @@ pub trait Show<A: Allocator + Copy> {
         ensures same { IsShownBy (shows self.old) (shows self.new) };
 
     /// If an engine's states can be shown, so can its states after further steps.
-    ghost goes_on: { (show : Self) (direction : Direction) (steps : ℕ) (e f : EngineView)
+    ghost ready_after_steps: { (show : Self) (direction : Direction) (steps : ℕ) (e f : EngineView)
         → Advanced direction steps e f → is_for show e → is_for show f };
 
     /// If an engine's states can be shown, so can any other state under the same job.
-    ghost goes_to: { (show : Self) (e f : EngineView) → f.job ≡ e.job → IsTyped f → is_for show e → is_for show f };
+    ghost ready_for_other_state: { (show : Self) (e f : EngineView) → f.job ≡ e.job → IsTyped f → is_for show e → is_for show f };
 }

@@ -33,7 +33,7 @@ use std::thread::Threads;
 /// Levesque-Verlet steps (J. Stat. Phys. 72, 519, 1993), which `run_bytes` would write. Steps after the last text are
 /// not made.
 ///
-/// The errors come in this order: `Rejected` with errors of the job, the state and `Engine::new`, then of `Show::begin`,
+/// The errors come in this order: `Rejected` with errors of the job, the state and `Engine::new`, then of `Show::prepare`,
 /// or `Memory` if memory ran out in these; `Steps` with `StepRange` exactly if the counter would leave an i64 within the
 /// steps; with these no text is written, and the watcher isn't called. `Steps` with `Memory` if memory ran out after
 /// `done` steps: the texts up to there are written whole, possibly without the text after exactly `done` steps, and never
@@ -59,12 +59,12 @@ pub fn run_shown<
         (W.told watch.old watch.new) result }
 {
     let mut engine = open(alloc, job, state)?;
-    begin_and_visit(rt, &mut engine, plan, show, watch, out)
+    prepare_and_visit(rt, &mut engine, plan, show, watch, out)
 }
 
 /// Prepares for the states of an engine, and visits them. Only the caller owns and drops the engine, since an engine has
 /// many parts, and each exit that drops one is costly to prove.
-fn begin_and_visit<
+fn prepare_and_visit<
     R: Threads + Sync,
     A: Allocator + Copy + Send + Sync,
     S: Show<A>,
@@ -87,7 +87,7 @@ fn begin_and_visit<
     ensures unshown { IfErr result (IsEngineUnshown (S.shows show.old) plan.now engine.old
         (O.output out.old) (O.output out.new) (W.told watch.old watch.new)) }
 {
-    show.begin(engine)?;
+    show.prepare(engine)?;
     visit(rt, engine, plan, show, watch, out)
 }
 

@@ -5,7 +5,7 @@ ghost use Rattle.engine.specs.Counting.{AllFit};
 ghost use Rattle.engine.specs.Engines.{Advanced};
 ghost use Rattle.integrator.specs.States.{counter_after};
 ghost use Rattle.runs.specs.Shown.{IsStopped};
-ghost use Rattle.runs.specs.Watching.{IsNextHundredth, hundredths_behind, reports_at};
+ghost use Rattle.runs.specs.Watching.{IsNextHundredth, hundredths, hundredths_behind, reports_at};
 
 use crate::halts::Halt;
 use crate::watching::Watch;
@@ -66,9 +66,9 @@ pub(crate) fn advance<R: Threads + Sync, A: Allocator + Copy + Send + Sync, W: W
     requires within { before + steps ≤ of }
     ensures went { OnOk result (Advanced direction steps engine.old engine.new) }
     ensures told { OnOk result (W.told watch.old watch.new
-        (reports_at (O.output out.now) (hundredths_behind of before steps))) }
+        (reports_at (O.output out.now) of (hundredths_behind of before steps))) }
     ensures stopped { IfErr result (λ h. (made : ℕ) × IsStopped direction before steps made engine.old engine.new h
-        × W.told watch.old watch.new (reports_at (O.output out.now) (hundredths_behind of before made))) }
+        × W.told watch.old watch.new (reports_at (O.output out.now) of (hundredths_behind of before made))) }
 {
     if !watch.watches() {
         return go_on(rt, engine, direction, steps, workers, before);
@@ -81,8 +81,29 @@ pub(crate) fn advance<R: Threads + Sync, A: Allocator + Copy + Send + Sync, W: W
         go_on(rt, engine, direction, more, workers, done)?;
         made += more;
         if more == next {
-            watch.tell(done + more, out);
+            watch.tell(done + more, of, out);
         }
     }
     Ok(())
+}
+
+/// Makes n steps in a direction, and calls the watcher after each hundredth of them.
+///
+/// `Memory`: memory ran out after `done` steps, before the last; the watcher was called up to there.
+pub fn watched_steps<R: Threads + Sync, A: Allocator + Copy + Send + Sync, W: Watch, O: Out>(
+    rt: &R,
+    engine: &mut Engine<A>,
+    direction: Direction,
+    steps: u64,
+    workers: Workers,
+    watch: &mut W,
+    out: &O,
+) -> Result<(), Halt>
+    requires { AllFit direction engine.old.state.step steps }
+    ensures went { OnOk result (Advanced direction steps engine.old engine.new) }
+    ensures told { OnOk result (W.told watch.old watch.new (reports_at (O.output out.now) steps (hundredths steps))) }
+    ensures stopped { IfErr result (λ h. (made : ℕ) × IsStopped direction 0 steps made engine.old engine.new h
+        × W.told watch.old watch.new (reports_at (O.output out.now) steps (hundredths_behind steps 0 made))) }
+{
+    advance(rt, engine, direction, steps, workers, 0, steps, watch, out)
 }

@@ -44,7 +44,7 @@ fn show_next<R: Threads + Sync, A: Allocator + Copy + Send + Sync, S: Show<A>, W
     ensures went { OnOk result (Advanced plan.now.direction (steps_to plan.now number - before) engine.old engine.new) }
     ensures wrote { OnOk result (WroteText ((S.shows show.old).texts engine.new.job number engine.new.state)
         (O.output out.old) (O.output out.new)) }
-    ensures told { OnOk result (W.told watch.old watch.new (reports_at (O.output out.old)
+    ensures told { OnOk result (W.told watch.old watch.new (reports_at (O.output out.old) (steps_made plan.now)
         (hundredths_behind (steps_made plan.now) before (steps_to plan.now number - before)))) }
     ensures broke { IfErr result (BreaksOff (S.shows show.old) plan.now number before engine.old engine.new
         (O.output out.old) (O.output out.new) (W.told watch.old watch.new)) }

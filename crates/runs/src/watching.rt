@@ -14,9 +14,10 @@ pub trait Watch {
     fn watches(&self) -> bool
         ensures { result ≡ false → (reports : List Report) → told self.now self.now reports };
 
-    /// Reports that `done` steps are made, and shows the output as it is then. So reports and texts have one order.
-    fn tell<O: Out>(&mut self, done: u64, out: &O)
-        ensures { told self.old self.new (record { done = done; output = O.output out.now } ∷ []) };
+    /// Reports that `done` of `all` steps are made, and shows the output as it is then. So reports and texts have one
+    /// order.
+    fn tell<O: Out>(&mut self, done: u64, all: u64, out: &O)
+        ensures { told self.old self.new (record { done = done; all = all; output = O.output out.now } ∷ []) };
 
     /// A watcher that hasn't changed got no report.
     ghost told_nothing: { (w : Self) → told w w [] };
@@ -37,7 +38,7 @@ impl Watch for Unwatched {
         false
     }
 
-    fn tell<O: Out>(&mut self, _done: u64, _out: &O) {}
+    fn tell<O: Out>(&mut self, _done: u64, _all: u64, _out: &O) {}
 
     ghost told_nothing = { λ _. tt };
 

@@ -5,6 +5,7 @@ mod DifferenceLaws
 mod OneDifference
 mod ReplayLaws
 mod ReplayStreamLaws
+pub mod WatchedLaws
 mod OneReplay
 mod OneRunLaws
 mod ShownStates

@@ -16,7 +16,7 @@ use Rattle.integrator.proofs.StateLaws.{length-moved}
 use Rattle.state.specs.StateText.{StateView}
 use Rattle.streams.specs.Plans.{IsReplayed, ReplayPlanView}
 use Rattle.streams.specs.Replays.{segment_line}
-use Rattle.streams.specs.Segments.{Compares, IsTold, compared}
+use Rattle.streams.specs.Segments.{Compares, IsLineTold, IsTold, compared}
 use Rattle.streams.specs.declared.differences.Difference.{Difference}
 
 -- steps lead from an engine of a job and a state to an engine of the job and the state that they reach
@@ -48,9 +48,23 @@ bits_refused e t is other =
     system_refused e.job t is.system.0 (Refused BitsDiffer) (system_parts e.job e.state is.system is.made).energy_read
     (bits_unlike e.job t unlike)
 
--- the line of a compared segment tells it
-pub line_told : (plan : ReplayPlanView) (number : ℕ) (e : EngineView) (t : StateView) (d : Option Difference) (from : ℤ) (b : Bool) (line : List ℕ)
-    → from ≡ e.state.step → b ≡ is_some d → line ≡ segment_line from t.step d → IsReplayed plan number from t.step
-    → Compares e t d → IsTold plan number e t b line
-line_told plan number e t d from b line first differs is has h =
-    rw (differs, is, first) (compared d (rw first at has) h)
+-- the line of a compared segment
+pub line_told : (plan : ReplayPlanView) (number : ℕ) (e taken : EngineView) (t : StateView) (d : Option Difference) (from : ℤ) (line : List ℕ)
+    → from ≡ e.state.step → line ≡ segment_line from t.step d → IsReplayed plan number from t.step
+    → Compares e t d → IsEngineOf e.job t taken → IsLineTold plan number e t line
+line_told plan number e taken t d from line first is has h safe = record {
+  taken = taken;
+  safe = safe;
+  replayed = rw first at has;
+  difference = d;
+  compared = h;
+  line' = rw first at is;
+}
+
+-- tells it
+pub told_line : (plan : ReplayPlanView) (number : ℕ) (e taken : EngineView) (t : StateView) (d : Option Difference) (from : ℤ) (line : List ℕ)
+    (b : Bool) → from ≡ e.state.step → line ≡ segment_line from t.step d → IsReplayed plan number from t.step
+    → Compares e t d → IsEngineOf e.job t taken → b ≡ is_some d → IsTold plan number e t b line
+unfolding line_told
+told_line plan number e taken t d from line b first is has h safe differs =
+    rw differs (compared line (line_told plan number e taken t d from line first is has h safe))

@@ -49,7 +49,7 @@ module _ (plan : ReplayPlanView) (job : List ℕ) where
   }
 
   -- before the first segment
-  pub way_begins : (text : List ℕ) (left : Left) (o : Output) → AreSafe job text
+  unfoldable pub way_begins : (text : List ℕ) (left : Left) (o : Output) → AreSafe job text
       → Way plan job (with_text text left) 0 0 text left o o
   way_begins text left o safe = record {
     front = text;
@@ -120,12 +120,17 @@ module _ (plan : ReplayPlanView) (job : List ℕ) where
         line' = ap (λ (s : StateView). segment_line s.step t.step d) same;
       }
 
+      line_at : (number : ℕ) (line : List ℕ) (told : IsLineTold plan number e t line) → IsLineOf job last text told.difference line
+      line_at number line told =
+          subst (IsLineOf job last text told.difference) (sym told.line') (line_of told.difference told.compared)
+
       -- what an engine tells of a segment is to be written of it
       pub written : (number : ℕ) (b : Bool) (line : List ℕ) → IsTold plan number e t b line → IsWritten plan job number last text b line
       written number b line (passed h) =
           replays.passed (record { s = at.s; t = t; first = at.state_text'; second = is; holds = rw same at h })
-      written number b line (compared d has h) =
-          replayed d _ (record { s = at.s; t = t; first = at.state_text'; second = is; holds = rw same at has }) (line_of d h)
+      written number b line (compared x h) =
+          replayed h.difference x (record { s = at.s; t = t; first = at.state_text'; second = is; holds = rw same at h.replayed })
+          (line_at number x h)
 
       -- the engine's line of the segment is to be written next
       pub next_line : (number : ℕ) (line : List ℕ) → e.job ≡ j → IsLineTold plan number e t line → IsNextLine plan job number last text line
@@ -134,11 +139,11 @@ module _ (plan : ReplayPlanView) (job : List ℕ) where
             (record { s = t; state_text' = is; is = subst (λ (x : JobValue). IsEngineOf x t told.taken) of_job told.safe });
         replayed = record { s = at.s; t = t; first = at.state_text'; second = is; holds = rw same at told.replayed };
         difference = told.difference;
-        line = subst (IsLineOf job last text told.difference) (sym told.line') (line_of told.difference told.compared);
+        line = line_at number line told;
       }
 
     -- the segment to the next text was told
-    pub way_goes : (all : Left) (number differing : ℕ) (left left' : Left) (o m r : Output) (text : List ℕ) (b : Bool)
+    unfoldable pub way_goes : (all : Left) (number differing : ℕ) (left left' : Left) (o m r : Output) (text : List ℕ) (b : Bool)
         → Way plan job all number differing last left o m → Takes left left' text → AreSafe job text
         → OfState text (λ t. (line : List ℕ) × IsTold plan number e t b line × Appends m r line)
         → Way plan job all (suc number) (and_one b differing) text left' o r

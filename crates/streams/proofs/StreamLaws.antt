@@ -38,11 +38,11 @@ abbrev pub rest_of : Left → List ℕ
 rest_of None = []
 rest_of (Some rest) = rest
 
-is_rest : (left : Left) → IfSome left (λ told. rest_of left ≡ told)
+pub is_rest : (left : Left) → IfSome left (λ told. rest_of left ≡ told)
 is_rest None = tt
 is_rest (Some rest) = refl
 
-is_with_text : (text rest : List ℕ) (left : Left) → IfSome left (λ told. rest ≡ told)
+pub is_with_text : (text rest : List ℕ) (left : Left) → IfSome left (λ told. rest ≡ told)
     → IfSome (with_text text left) (λ told. text ++ rest ≡ told)
 is_with_text text rest None h = tt
 is_with_text text rest (Some told) h = ap (λ (x : List ℕ). text ++ x) h

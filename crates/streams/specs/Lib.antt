@@ -4,5 +4,6 @@ pub mod Faults
 pub mod OnTheWay
 pub mod Plans
 pub mod Replays
+pub mod Watched
 pub mod Segments
 pub mod OneRun

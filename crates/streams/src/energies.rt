@@ -43,8 +43,8 @@ impl<A: Allocator + Copy> Show<A> for EnergyTexts<A> {
 
     ghost is_for = { λ texts e. IsReady texts.observer e };
 
-    fn begin(&mut self, engine: &mut Engine<A>) -> Result<(), Failure<EnergyFault<A>>> {
-        self.observer.begin(engine)?;
+    fn prepare(&mut self, engine: &mut Engine<A>) -> Result<(), Failure<EnergyFault<A>>> {
+        self.observer.prepare(engine)?;
         Ok(())
     }
 
@@ -65,7 +65,7 @@ impl<A: Allocator + Copy> Show<A> for EnergyTexts<A> {
         Ok(())
     }
 
-    ghost goes_on = { λ texts direction steps e f went ready. ready_on texts.observer direction steps e f went ready };
+    ghost ready_after_steps = { λ texts direction steps e f went ready. ready_on texts.observer direction steps e f went ready };
 
-    ghost goes_to = { λ texts e f same typed ready. ready_to texts.observer e f same typed ready };
+    ghost ready_for_other_state = { λ texts e f same typed ready. ready_to texts.observer e f same typed ready };
 }

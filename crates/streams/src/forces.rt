@@ -33,7 +33,7 @@ impl<A: Allocator + Copy> Show<A> for ForceTexts<A> {
 
     ghost is_for = { λ _ e. IsTyped e };
 
-    fn begin(&mut self, _engine: &mut Engine<A>) -> Result<(), Failure<EnergyFault<A>>> {
+    fn prepare(&mut self, _engine: &mut Engine<A>) -> Result<(), Failure<EnergyFault<A>>> {
         Ok(())
     }
 
@@ -54,7 +54,7 @@ impl<A: Allocator + Copy> Show<A> for ForceTexts<A> {
         Ok(())
     }
 
-    ghost goes_on = { λ _ direction steps e f went typed. typed_on direction steps e f went typed };
+    ghost ready_after_steps = { λ _ direction steps e f went typed. typed_on direction steps e f went typed };
 
-    ghost goes_to = { λ _ _ _ _ typed _. typed };
+    ghost ready_for_other_state = { λ _ _ _ _ typed _. typed };
 }

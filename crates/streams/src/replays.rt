@@ -10,8 +10,9 @@ ghost use Rattle.state.specs.StateViews.{state_view};
 ghost use Rattle.streams.specs.OnTheWay.{IsAt, OfState};
 ghost use Rattle.streams.specs.Plans.{IsReplayed, replay_plan_view};
 ghost use Rattle.streams.specs.Replays.{replayed_by};
-ghost use Rattle.streams.specs.Segments.{Compares, FailsSegment, IsNotTaken, IsTold};
+ghost use Rattle.streams.specs.Segments.{Compares, FailsSegment, IsNotTaken, IsTold, SegmentTold, ToldBefore, ToldRun, ToldWhole};
 ghost use Rattle.streams.specs.Streams.{WritesStream};
+ghost use Rattle.streams.specs.Watched.{IsWatched};
 ghost use Rattle.streams.specs.declared.faults.StreamFault.TheVariants as stream;
 
 use crate::differences::{Difference, first_difference};
@@ -21,6 +22,7 @@ use crate::segments::{segment_line, way};
 use engine::{Engine, InputFault, open};
 use fallible::{Out, write_all};
 use integrator::{SystemFault, Workers};
+use runs::{Watch, watched_steps};
 use state::{Lines, State, next_text};
 use std::alloc::Allocator;
 use std::thread::Threads;
@@ -41,7 +43,8 @@ impl ReplayPlan {
 
 /// Replays a stream of states under a job: from each state but the last it makes the steps to the counter of the next
 /// state, forward or back, compares, and writes a line of the segment. `Ok`: all replayed segments are the same. If all
-/// segments are replayed, the stream is of one run.
+/// segments are replayed, the stream is of one run. Calls a watcher after each hundredth of the steps of a segment, before
+/// its line.
 ///
 /// `job` is the bytes of a job. The stream must have at least one state; it is read as it comes, and two states are in
 /// memory at most. Segments that `plan` leaves out are read, but not run, and have no line.
@@ -51,39 +54,52 @@ impl ReplayPlan {
 /// be read on, or after 2^64 - 1 states; `Out` if a write failed, after a beginning of a line; `Memory`; `Differ` with
 /// the number of segments that differ, after the lines of all segments. The lines of all segments before the error are
 /// written.
-pub fn replay_states<R: Threads + Sync, A: Allocator + Copy + Send + Sync, L: Lines, O: Out>(
+pub fn replay_states<
+    R: Threads + Sync,
+    A: Allocator + Copy + Send + Sync,
+    L: Lines,
+    W: Watch,
+    O: Out,
+>(
     rt: &R,
     alloc: A,
     job: &[u8],
     lines: &mut L,
     plan: &ReplayPlan,
+    watch: &mut W,
     out: &mut O,
 ) -> Result<(), StreamFault<InputFault<A>>>
     requires count { (O.output out.old).failed < 2 ^ 64 - 1 }
-    ensures { WritesStream (replayed_by (replay_plan_view plan.now) job.now) job.now (L.left lines.old)
+    ensures writes { WritesStream (replayed_by (replay_plan_view plan.now) job.now) job.now (L.left lines.old)
         (O.output out.old) (O.output out.new) result }
+    ensures watched { IsWatched (replay_plan_view plan.now) job.now (L.left lines.old) (O.output out.old) (O.output out.new)
+        (W.told watch.old watch.new) result }
 {
     let mut text = Vec::new(alloc);
     next_text(lines, &mut text)?;
     let mut engine = open(alloc, job, &text)?;
-    replay_each(rt, alloc, &mut engine, &mut text, lines, plan, out)
+    replay_each(rt, alloc, &mut engine, &mut text, lines, plan, watch, out)
 }
 
 /// Replays the segments from the state of an engine, whose text is `text`, on.
-fn replay_each<R: Threads + Sync, A: Allocator + Copy + Send + Sync, L: Lines, O: Out>(
+fn replay_each<R: Threads + Sync, A: Allocator + Copy + Send + Sync, L: Lines, W: Watch, O: Out>(
     rt: &R,
     alloc: A,
     engine: &mut Engine<A>,
     text: &mut Vec<u8, A>,
     lines: &mut L,
     plan: &ReplayPlan,
+    watch: &mut W,
     out: &mut O,
 ) -> Result<(), StreamFault<InputFault<A>>>
     requires at { IsAt engine.old.job text.old.items engine.old }
     requires count { (O.output out.old).failed < 2 ^ 64 - 1 }
-    ensures { (job : List ℕ) → IsJobText limits job engine.old.job
+    ensures writes { (job : List ℕ) → IsJobText limits job engine.old.job
         → WritesStream (replayed_by (replay_plan_view plan.now) job) job (with_text text.old.items (L.left lines.old))
         (O.output out.old) (O.output out.new) result }
+    ensures watched { (job : List ℕ) → IsJobText limits job engine.old.job
+        → IsWatched (replay_plan_view plan.now) job (with_text text.old.items (L.left lines.old)) (O.output out.old)
+        (O.output out.new) (W.told watch.old watch.new) result }
 {
     let mut number = 0;
     let mut differing = 0;
@@ -92,7 +108,7 @@ fn replay_each<R: Threads + Sync, A: Allocator + Copy + Send + Sync, L: Lines, O
         if text.is_empty() {
             return all_the_same(differing);
         }
-        if replay_next(rt, alloc, engine, text, number, plan, out)? {
+        if replay_next(rt, alloc, engine, text, number, plan, watch, out)? {
             differing += 1;
         }
         number += 1;
@@ -115,13 +131,14 @@ fn all_the_same<R>(differing: u64) -> Result<(), StreamFault<R>>
 
 /// Replays the segment with this number, from the state of an engine to the state of a text, if it is to be replayed.
 /// The engine takes the state of the text. `Ok`: whether the segment was replayed and differs.
-fn replay_next<R: Threads + Sync, A: Allocator + Copy + Send + Sync, O: Out>(
+fn replay_next<R: Threads + Sync, A: Allocator + Copy + Send + Sync, W: Watch, O: Out>(
     rt: &R,
     alloc: A,
     engine: &mut Engine<A>,
     text: &[u8],
     number: u64,
     plan: &ReplayPlan,
+    watch: &mut W,
     out: &mut O,
 ) -> Result<bool, StreamFault<InputFault<A>>>
     requires at { IsEngineOf engine.old.job engine.old.state engine.old }
@@ -132,6 +149,10 @@ fn replay_next<R: Threads + Sync, A: Allocator + Copy + Send + Sync, O: Out>(
     ensures at { OnOk result (IsAt engine.old.job text.now engine.new) }
     ensures fails { IfErr result (FailsSegment (replay_plan_view plan.now) number engine.old text.now (O.output out.old)
         (O.output out.new)) }
+    ensures watched { OnOk result (OfState text.now (λ t. ToldWhole (replay_plan_view plan.now) number engine.old t
+        (O.output out.old) (W.told watch.old watch.new))) }
+    ensures stopped { IfErr result (SegmentTold (replay_plan_view plan.now) number engine.old text.now (O.output out.old)
+        (W.told watch.old watch.new)) }
 {
     let state = match State::read(alloc, text) {
         Ok(state) => state,
@@ -143,7 +164,7 @@ fn replay_next<R: Threads + Sync, A: Allocator + Copy + Send + Sync, O: Out>(
         take(engine, state, number + 2)?;
         return Ok(false);
     }
-    let difference = compare(rt, engine, state, number + 2, plan.workers)?;
+    let difference = compare(rt, engine, state, number + 2, plan.workers, watch, out)?;
     match write_all(out, segment_line(from, to, difference).as_slice()) {
         Ok(()) => Ok(difference.is_some()),
         Err(fault) => Err(StreamFault::Out(fault)),
@@ -152,17 +173,23 @@ fn replay_next<R: Threads + Sync, A: Allocator + Copy + Send + Sync, O: Out>(
 
 /// Makes the steps to the counter of the state with this number, from 1, compares, and takes the state. A state with
 /// another number of fraction bits is rejected before any step.
-fn compare<R: Threads + Sync, A: Allocator + Copy + Send + Sync>(
+fn compare<R: Threads + Sync, A: Allocator + Copy + Send + Sync, W: Watch, O: Out>(
     rt: &R,
     engine: &mut Engine<A>,
     state: State<A>,
     number: u64,
     workers: Workers,
+    watch: &mut W,
+    out: &O,
 ) -> Result<Option<Difference>, StreamFault<InputFault<A>>>
     requires { IsEngineOf engine.old.job engine.old.state engine.old }
     ensures compared { IfOk result (Compares engine.old (state_view state)) }
     ensures at { OnOk result (IsEngineOf engine.old.job (state_view state) engine.new) }
     ensures refused { IfErr result (IsNotTaken engine.old.job (state_view state) number) }
+    ensures watched { OnOk result (ToldRun engine.old.state.step (state_view state).step (O.output out.now)
+        (W.told watch.old watch.new)) }
+    ensures stopped { IfErr result (ToldBefore engine.old.state.step (state_view state).step (O.output out.now)
+        (W.told watch.old watch.new)) }
 {
     if state.frac != engine.frac() {
         return Err(StreamFault::State {
@@ -171,10 +198,11 @@ fn compare<R: Threads + Sync, A: Allocator + Copy + Send + Sync>(
         });
     }
     let (direction, steps) = way(engine.step(), state.step);
-    let Ok(()) = engine.steps_within(rt, direction, steps, workers) else {
-        return Err(StreamFault::Memory);
+    let difference = match watched_steps(rt, engine, direction, steps, workers, watch, out) {
+        Ok(()) => first_difference(engine.state(), &state),
+        Err(_) => return Err(StreamFault::Memory),
     };
-    match first_difference(engine.state(), &state) {
+    match difference {
         None => Ok(None),
         Some(difference) => {
             take(engine, state, number)?;

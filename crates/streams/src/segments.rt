@@ -2,6 +2,7 @@
 
 ghost use Rattle.std.specs.Prelude.{◌≡◌, ◌≤◌, ◌+◌, ◌++◌, Some, length};
 ghost use Rattle.arrayvec.specs.ArrayVec.{array_vec_len};
+ghost use Rattle.engine.specs.Counting.{AllFit};
 ghost use Rattle.integrator.specs.States.{counter_after};
 ghost use Rattle.streams.specs.Replays.{axis_words, difference_words, part_words, segment_line, verdict_words};
 
@@ -12,7 +13,8 @@ use ring_box::Axis;
 
 /// The direction and the number of steps from one counter to another.
 pub(crate) fn way(from: i64, to: i64) -> (Direction, u64)
-    ensures { counter_after result.0 from result.1 ≡ Some to }
+    ensures counted { counter_after result.0 from result.1 ≡ Some to }
+    ensures each { AllFit result.0 from result.1 }
 {
     if from <= to {
         (Direction::Forward, to.abs_diff(from))

@@ -19,7 +19,7 @@ use std::alloc::Allocator;
 /// `job` is the bytes of a job. The stream must have at least one state. States may have other atoms, boxes or numbers
 /// of fraction bits; each is judged for itself, as `open` judges it. The code is verified once, for the first state.
 ///
-/// Errors: `Rejected` for errors of the job, its energy or its code, then from `Show::begin`, before any text; `State`
+/// Errors: `Rejected` for errors of the job, its energy or its code, then from `Show::prepare`, before any text; `State`
 /// for errors of a state or of its fit to the job, with its number from 1; `CannotRead` if the stream can't be read on,
 /// or after 2^64 - 1 states; `Out` if a write failed, after a beginning of a text; `Memory`. `Differ` never comes. The
 /// texts of all states before the error are written.
@@ -54,7 +54,7 @@ fn show_each<A: Allocator + Copy, S: Show<A>, L: Lines, O: Out>(
     ensures { (job : List ℕ) → IsJobText limits job engine.old.job → WritesStream (shown_by (S.shows show.old) job) job
         (with_text text.old.items (L.left lines.old)) (O.output out.old) (O.output out.new) result }
 {
-    show.begin(engine)?;
+    show.prepare(engine)?;
     let mut shown = 0;
     loop {
         show.show(engine, shown, 0, out)?;

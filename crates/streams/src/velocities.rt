@@ -31,7 +31,7 @@ impl<A: Allocator + Copy> Show<A> for VelocityTexts<A> {
 
     ghost is_for = { λ _ _. Unit {0} };
 
-    fn begin(&mut self, _engine: &mut Engine<A>) -> Result<(), Failure<EnergyFault<A>>> {
+    fn prepare(&mut self, _engine: &mut Engine<A>) -> Result<(), Failure<EnergyFault<A>>> {
         Ok(())
     }
 
@@ -50,7 +50,7 @@ impl<A: Allocator + Copy> Show<A> for VelocityTexts<A> {
         Ok(())
     }
 
-    ghost goes_on = { λ _ _ _ _ _ _ _. tt };
+    ghost ready_after_steps = { λ _ _ _ _ _ _ _. tt };
 
-    ghost goes_to = { λ _ _ _ _ _ _. tt };
+    ghost ready_for_other_state = { λ _ _ _ _ _ _. tt };
 }

@@ -13,7 +13,7 @@ returns-in-Err-clause-undone g c =
     let words = map g.S.AsStr.text c.args.words.now in
     let undone = c.in-Err.ensures.undone in
     let lines = begun words _ _ _ _ _ _ _ _ undone in
-    λ some. (_, faulty words _ _ _ _ _ _ _ _ undone, told_behind words _ _ _ _ _ _ lines c.report_if_counted-status.ensures)
+    λ some. (_, faulty words _ _ _ _ _ _ _ _ undone, told_behind words _ _ _ _ _ _ _ _ lines c.report_if_counted-status.ensures)
 
 pub returns-in-Err-clause-fails : goal.returns-in-Err-clause-fails
 returns-in-Err-clause-fails g c = λ some. failure_told _ _ _ _ _ _ _ _ _ _ _ c.in-Err.ensures.undone c.report_if_counted-status.ensures

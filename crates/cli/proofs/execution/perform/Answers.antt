@@ -1,4 +1,5 @@
 -- each command is performed by the call for this command
+use Rattle.cli.proofs.ProgressLaws.{silent}
 use Rattle.cli.proofs.execution.perform.Goals as goal
 
 pub returns-in-Start-clause-performs : goal.returns-in-Start-clause-performs
@@ -14,7 +15,7 @@ pub returns-in-States-clause-performs : goal.returns-in-States-clause-performs
 returns-in-States-clause-performs g c = rw c.in-States.is c.perform_visits-in-States.ensures.performs
 
 pub returns-in-Replay-clause-performs : goal.returns-in-Replay-clause-performs
-returns-in-Replay-clause-performs g c = rw c.in-Replay.is c.perform_replay.ensures
+returns-in-Replay-clause-performs g c = rw c.in-Replay.is c.perform_replay.ensures.performs
 
 pub returns-in-Observe : goal.returns-in-Observe
 returns-in-Observe g c =
@@ -42,3 +43,21 @@ returns-in-Curve-clause-performs g c = rw c.in-Curve.is c.perform_curve.ensures.
 pub returns-in-Explain-clause-performs : goal.returns-in-Explain-clause-performs
 returns-in-Explain-clause-performs g c = rw c.in-Explain.is
     (c.perform_explain.ensures (g.F.Files.held c.args.files.now) (g.F.Files.requested c.args.files.now))
+
+pub returns-in-Start-clause-reports : goal.returns-in-Start-clause-reports
+returns-in-Start-clause-reports g c = rw c.in-Start.is (silent c.perform_start.result (g.E.Out.output c.args.err.now))
+
+pub returns-in-Frame-clause-reports : goal.returns-in-Frame-clause-reports
+returns-in-Frame-clause-reports g c = rw c.in-Frame.is (silent c.perform_frame.result (g.E.Out.output c.args.err.now))
+
+pub returns-in-Measure-clause-reports : goal.returns-in-Measure-clause-reports
+returns-in-Measure-clause-reports g c = rw c.in-Measure.is (silent c.perform_quantity.result (g.E.Out.output c.args.err.now))
+
+pub returns-in-Each-clause-reports : goal.returns-in-Each-clause-reports
+returns-in-Each-clause-reports g c = rw c.in-Each.is (silent c.perform_each.result (g.E.Out.output c.args.err.now))
+
+pub returns-in-Code-clause-reports : goal.returns-in-Code-clause-reports
+returns-in-Code-clause-reports g c = rw c.in-Code.is (silent c.perform_code.result (g.E.Out.output c.args.err.now))
+
+pub returns-in-Explain-clause-reports : goal.returns-in-Explain-clause-reports
+returns-in-Explain-clause-reports g c = rw c.in-Explain.is (silent c.perform_explain.result (g.E.Out.output c.args.err.now))

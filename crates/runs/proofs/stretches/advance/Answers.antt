@@ -11,7 +11,7 @@ loop-made-init g c = record {
   within = omega arith;
   went = went_nowhere c.args.direction c.args.engine.now (c.requires.fits 0 (omega arith));
   told = subst (g.W.Watch.told c.args.watch.now c.args.watch.now)
-      (sym (ap (reports_at (g.O.Out.output c.args.out.now)) (hundredths-zero c.args.of c.args.before)))
+      (sym (ap (reports_at (g.O.Out.output c.args.out.now) c.args.of) (hundredths-zero c.args.of c.args.before)))
       (g.met.W.Watch.told_nothing c.args.watch.now);
 }
 
@@ -37,7 +37,7 @@ loop-made-preserved g c =
       within = omega (arith, c.min-more.ensures);
       went = steps_add _ made more _ _ _ c.loop-made.invariant.went c.in_ok-go_on.ensures.went;
       told = subst (g.W.Watch.told c.args.watch.now c.loop-made.watch)
-          (sym (ap (reports_at (g.O.Out.output c.args.out.now))
+          (sym (ap (reports_at (g.O.Out.output c.args.out.now) c.args.of)
           (no_more_hundredth c.args.of c.args.before made c.until_hundredth-next.result more c.until_hundredth-next.ensures few)))
           c.loop-made.invariant.told;
     }
@@ -62,7 +62,7 @@ returns-in_err-go_on-clause-stopped g c =
           c.go_on-in-loop-made.new.engine c.in_err-go_on.field-0.0
           (omega (arith, c.min-more.ensures, c.loop-made.invariant.within)) c.loop-made.invariant.went stopped.1,
       subst (g.W.Watch.told c.args.watch.now c.loop-made.watch)
-          (sym (ap (reports_at (g.O.Out.output c.args.out.now))
+          (sym (ap (reports_at (g.O.Out.output c.args.out.now) c.args.of)
           (no_more_hundredth c.args.of c.args.before made c.until_hundredth-next.result stopped.0 c.until_hundredth-next.ensures
           few))) c.loop-made.invariant.told,
     )

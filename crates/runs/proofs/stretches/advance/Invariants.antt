@@ -8,7 +8,7 @@ abbrev pub invariant-loop-made : goal.invariant-loop-made
 invariant-loop-made g l = record {
   within : l.made ≤ l.steps;
   went : Advanced l.direction l.made l.fn.engine l.engine;
-  told : g.W.Watch.told l.fn.watch l.watch (reports_at (g.O.Out.output l.out) (hundredths_behind l.of l.before l.made));
+  told : g.W.Watch.told l.fn.watch l.watch (reports_at (g.O.Out.output l.out) l.of (hundredths_behind l.of l.before l.made));
 }
 
 abbrev pub decreases-loop-made : goal.decreases-loop-made

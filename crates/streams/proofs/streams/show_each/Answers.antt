@@ -10,8 +10,8 @@ use Rattle.streams.specs.Streams.{shown_by}
 use Rattle.streams.proofs.streams.show_each.Goals as goal
 
 -- the energy itself has no accepted code
-pub returns-in_err-begin : goal.returns-in_err-begin
-returns-in_err-begin g c = λ job job_text.
+pub returns-in_err-prepare : goal.returns-in_err-prepare
+returns-in_err-prepare g c = λ job job_text.
     let p = err_from_is_err_and c.from_residual.result c.from_residual.ensures.1 in
     let shows = g.S.Show.shows c.args.show.now in
     let e = c.args.engine.now in
@@ -21,7 +21,7 @@ returns-in_err-begin g c = λ job job_text.
     rw (p.1, p.2) (record {
       written = tt;
       stopped = energy_stops (shown_by shows job) job e.job job_text text e c.requires.at (with_text text left) left out _
-          c.in_err-begin.ensures.refused (begins shows job (with_text text left) out);
+          c.in_err-prepare.ensures.refused (begins shows job (with_text text left) out);
     })
 
 -- the text of a state wasn't written
@@ -89,7 +89,7 @@ loop-shown-preserved g c =
     record {
       few = omega (arith, i.few, c.if-shown.false);
       at = at;
-      ready = g.met.S.Show.goes_to c.show.new.self c.show.new.engine c.take_state.new.engine
+      ready = g.met.S.Show.ready_for_other_state c.show.new.self c.show.new.engine c.take_state.new.engine
           (at_job j c.next_text.new.text.items c.take_state.new.engine at ∙ sym kept)
           (at_typed j c.next_text.new.text.items c.take_state.new.engine at) c.show.ensures.ready;
       same = shown_by_both i.same c.show.ensures.same;

@@ -1,5 +1,5 @@
 use Rattle.std.proofs.Common.{refl}
-use Rattle.runs.proofs.kept_observers.KeptObserver.begin.Goals as goal
+use Rattle.runs.proofs.kept_observers.KeptObserver.prepare.Goals as goal
 
 pub returns-clause-ready : goal.returns-clause-ready
 returns-clause-ready g c = record {
