@@ -1,4 +1,4 @@
-//! An allocator for tests, in which one request fails.
+//! An allocator for tests, in which one request fails, or none.
 //! The allocator is a type parameter of every call that requests memory, so that a test can pass this one.
 #![tactic(auto)]
 
@@ -7,25 +7,25 @@ ghost use Rattle.std.specs.Prelude.{◌≡◌};
 use std::alloc::{AllocError, Allocator};
 use std::sync::atomic::{AtomicU64, Ordering};
 
-/// Passes requests for memory on to another allocator, except one, which fails. Requests are counted from 0, over all
-/// threads that share the allocator; a collection's growth is a request.
+/// Passes requests for memory on to another allocator, except one if one is to fail. Requests are counted from 0, over
+/// all threads that share the allocator; a collection's growth is a request.
 pub struct RefusingAllocator<B: Allocator> {
     inner: B,
     requests: Requests,
 }
 
-// The number of requests, the index of the failing one, and the number of blocks that were freed.
+// The number of requests, the index of the failing one if one fails, and the number of blocks that were freed.
 #[derive(Drop)]
 struct Requests {
     made: AtomicU64,
-    refused: u64,
+    refused: Option<u64>,
     returned: AtomicU64,
 }
 
 impl Requests {
     // Counts a request and returns whether it is the failing one.
     fn refuses_next(&self) -> bool {
-        self.made.fetch_add(1, Ordering::SeqCst) == self.refused
+        Some(self.made.fetch_add(1, Ordering::SeqCst)) == self.refused
     }
 
     // Counts a block that is freed.
@@ -35,8 +35,8 @@ impl Requests {
 }
 
 impl<B: Allocator> RefusingAllocator<B> {
-    /// An allocator over `inner` in which the request with the index `refused` fails.
-    pub fn new(inner: B, refused: u64) -> RefusingAllocator<B>
+    /// An allocator over `inner` in which the request with the index `refused` fails, or none.
+    pub fn new(inner: B, refused: Option<u64>) -> RefusingAllocator<B>
         ensures inner { result.inner ≡ inner }
         ensures refused { result.requests.refused ≡ refused }
     {
@@ -58,7 +58,10 @@ impl<B: Allocator> RefusingAllocator<B> {
     /// The number of blocks in use, if the other allocator failed no request.
     pub fn blocks(&self) -> u64 {
         let made = self.requests();
-        let refused = u64::from(made > self.requests.refused);
+        let refused = match self.requests.refused {
+            Some(index) => u64::from(made > index),
+            None => 0,
+        };
         let returned = self.requests.returned.load(Ordering::SeqCst);
         made.wrapping_sub(refused).wrapping_sub(returned)
     }

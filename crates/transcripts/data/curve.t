@@ -304,6 +304,130 @@ The first type is the type of the atom with the lower number. Parameters, global
   0.899999999674 -0.152777777752 3.06e-10 0.308641975746 4.83e-10
   # greatest energy-error 1.69e-9 at 0.199999999953, slope-error 5.44e-8 at 0.199999999953
 
+Two types have one table for both orders if its lines are the same in both. Otherwise the table of the other order
+follows. The energy of these types depends on their order, unless they have the same parameter.
+
+  $ cat > three << END
+  > pairmd job 1
+  > energy q1-q2+1/r
+  > core 0.2
+  > cutoff 0.9
+  > dt 2
+  > parameter q
+  > type AR 1 3
+  > type X 1 0.25
+  > type Y 1 3
+  > END
+  $ pairmd curve three --points 1
+  # AR AR
+  # r/nm energy/(kJ/mol) energy-error slope/(kJ/mol/nm) slope-error
+  0.199999999953 5.000000001164 5.83e-9 -25.000000122469 2.17e-7
+  0.899999999674 1.111111111473 2.89e-10 -1.234567902284 1.23e-9
+  # greatest energy-error 5.83e-9 at 0.199999999953, slope-error 2.17e-7 at 0.199999999953
+  
+  
+  # AR X
+  # r/nm energy/(kJ/mol) energy-error slope/(kJ/mol/nm) slope-error
+  0.199999999953 7.750000001164 5.83e-9 -25.000000122469 2.17e-7
+  0.899999999674 3.861111111473 2.89e-10 -1.234567902284 1.23e-9
+  # greatest energy-error 5.83e-9 at 0.199999999953, slope-error 2.17e-7 at 0.199999999953
+  
+  
+  # X AR
+  # r/nm energy/(kJ/mol) energy-error slope/(kJ/mol/nm) slope-error
+  0.199999999953 2.250000001164 5.83e-9 -25.000000122469 2.17e-7
+  0.899999999674 -1.638888888527 2.89e-10 -1.234567902284 1.23e-9
+  # greatest energy-error 5.83e-9 at 0.199999999953, slope-error 2.17e-7 at 0.199999999953
+  
+  
+  # AR Y
+  # Y AR
+  # r/nm energy/(kJ/mol) energy-error slope/(kJ/mol/nm) slope-error
+  0.199999999953 5.000000001164 5.83e-9 -25.000000122469 2.17e-7
+  0.899999999674 1.111111111473 2.89e-10 -1.234567902284 1.23e-9
+  # greatest energy-error 5.83e-9 at 0.199999999953, slope-error 2.17e-7 at 0.199999999953
+  
+  
+  # X X
+  # r/nm energy/(kJ/mol) energy-error slope/(kJ/mol/nm) slope-error
+  0.199999999953 5.000000001164 5.83e-9 -25.000000122469 2.17e-7
+  0.899999999674 1.111111111473 2.89e-10 -1.234567902284 1.23e-9
+  # greatest energy-error 5.83e-9 at 0.199999999953, slope-error 2.17e-7 at 0.199999999953
+  
+  
+  # X Y
+  # r/nm energy/(kJ/mol) energy-error slope/(kJ/mol/nm) slope-error
+  0.199999999953 2.250000001164 5.83e-9 -25.000000122469 2.17e-7
+  0.899999999674 -1.638888888527 2.89e-10 -1.234567902284 1.23e-9
+  # greatest energy-error 5.83e-9 at 0.199999999953, slope-error 2.17e-7 at 0.199999999953
+  
+  
+  # Y X
+  # r/nm energy/(kJ/mol) energy-error slope/(kJ/mol/nm) slope-error
+  0.199999999953 7.750000001164 5.83e-9 -25.000000122469 2.17e-7
+  0.899999999674 3.861111111473 2.89e-10 -1.234567902284 1.23e-9
+  # greatest energy-error 5.83e-9 at 0.199999999953, slope-error 2.17e-7 at 0.199999999953
+  
+  
+  # Y Y
+  # r/nm energy/(kJ/mol) energy-error slope/(kJ/mol/nm) slope-error
+  0.199999999953 5.000000001164 5.83e-9 -25.000000122469 2.17e-7
+  0.899999999674 1.111111111473 2.89e-10 -1.234567902284 1.23e-9
+  # greatest energy-error 5.83e-9 at 0.199999999953, slope-error 2.17e-7 at 0.199999999953
+
+The lines are compared as they are printed: the slope is the same for all pairs.
+
+  $ pairmd curve three --points 1 --slope
+  # AR AR
+  # r/nm slope/(kJ/mol/nm) slope-error
+  0.199999999953 -25.000000122469 2.17e-7
+  0.899999999674 -1.234567902284 1.23e-9
+  # greatest slope-error 2.17e-7 at 0.199999999953
+  
+  
+  # AR X
+  # X AR
+  # r/nm slope/(kJ/mol/nm) slope-error
+  0.199999999953 -25.000000122469 2.17e-7
+  0.899999999674 -1.234567902284 1.23e-9
+  # greatest slope-error 2.17e-7 at 0.199999999953
+  
+  
+  # AR Y
+  # Y AR
+  # r/nm slope/(kJ/mol/nm) slope-error
+  0.199999999953 -25.000000122469 2.17e-7
+  0.899999999674 -1.234567902284 1.23e-9
+  # greatest slope-error 2.17e-7 at 0.199999999953
+  
+  
+  # X X
+  # r/nm slope/(kJ/mol/nm) slope-error
+  0.199999999953 -25.000000122469 2.17e-7
+  0.899999999674 -1.234567902284 1.23e-9
+  # greatest slope-error 2.17e-7 at 0.199999999953
+  
+  
+  # X Y
+  # Y X
+  # r/nm slope/(kJ/mol/nm) slope-error
+  0.199999999953 -25.000000122469 2.17e-7
+  0.899999999674 -1.234567902284 1.23e-9
+  # greatest slope-error 2.17e-7 at 0.199999999953
+  
+  
+  # Y Y
+  # r/nm slope/(kJ/mol/nm) slope-error
+  0.199999999953 -25.000000122469 2.17e-7
+  0.899999999674 -1.234567902284 1.23e-9
+  # greatest slope-error 2.17e-7 at 0.199999999953
+  $ pairmd curve three --points 1 --energy --types Y AR
+  # Y AR
+  # r/nm energy/(kJ/mol) energy-error
+  0.199999999953 5.000000001164 5.83e-9
+  0.899999999674 1.111111111473 2.89e-10
+  # greatest energy-error 5.83e-9 at 0.199999999953
+
 Without types there is no table.
 
   $ with job 7 '' pairmd curve job --points 1

@@ -1074,12 +1074,6 @@ not verified again; the slices of its pairs are complete at once.
   
   
   # AR KR
-  # r/nm energy/(kJ/mol) energy-error
-  0.199999999953 30.000000006985 3.50e-8
-  0.899999999674 6.666666669073 1.73e-9
-  # greatest energy-error 3.50e-8 at 0.199999999953
-  
-  
   # KR AR
   # r/nm energy/(kJ/mol) energy-error
   0.199999999953 30.000000006985 3.50e-8

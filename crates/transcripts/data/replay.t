@@ -442,6 +442,260 @@ Only the derivative's code is needed, not that of the energy itself.
   0 1 same
   1 2 same
 
+## Progress
+
+With `--progress` each replayed segment has progress of its own: a line on standard error for each step that completes
+another hundredth of the segment's steps.
+
+  $ workers pairmd replay job path --progress
+  7 10 same
+  10 12 same
+  12 9 same
+  9 -3 same
+  pairmd: 1 of 3 steps
+  pairmd: 2 of 3 steps
+  pairmd: 3 of 3 steps
+  pairmd: 1 of 2 steps
+  pairmd: 2 of 2 steps
+  pairmd: 1 of 3 steps
+  pairmd: 2 of 3 steps
+  pairmd: 3 of 3 steps
+  pairmd: 1 of 12 steps
+  pairmd: 2 of 12 steps
+  pairmd: 3 of 12 steps
+  pairmd: 4 of 12 steps
+  pairmd: 5 of 12 steps
+  pairmd: 6 of 12 steps
+  pairmd: 7 of 12 steps
+  pairmd: 8 of 12 steps
+  pairmd: 9 of 12 steps
+  pairmd: 10 of 12 steps
+  pairmd: 11 of 12 steps
+  pairmd: 12 of 12 steps
+  $ pairmd replay job still --progress
+  0 1000 same
+  pairmd: 10 of 1000 steps
+  pairmd: 20 of 1000 steps
+  pairmd: 30 of 1000 steps
+  pairmd: 40 of 1000 steps
+  pairmd: 50 of 1000 steps
+  pairmd: 60 of 1000 steps
+  pairmd: 70 of 1000 steps
+  pairmd: 80 of 1000 steps
+  pairmd: 90 of 1000 steps
+  pairmd: 100 of 1000 steps
+  pairmd: 110 of 1000 steps
+  pairmd: 120 of 1000 steps
+  pairmd: 130 of 1000 steps
+  pairmd: 140 of 1000 steps
+  pairmd: 150 of 1000 steps
+  pairmd: 160 of 1000 steps
+  pairmd: 170 of 1000 steps
+  pairmd: 180 of 1000 steps
+  pairmd: 190 of 1000 steps
+  pairmd: 200 of 1000 steps
+  pairmd: 210 of 1000 steps
+  pairmd: 220 of 1000 steps
+  pairmd: 230 of 1000 steps
+  pairmd: 240 of 1000 steps
+  pairmd: 250 of 1000 steps
+  pairmd: 260 of 1000 steps
+  pairmd: 270 of 1000 steps
+  pairmd: 280 of 1000 steps
+  pairmd: 290 of 1000 steps
+  pairmd: 300 of 1000 steps
+  pairmd: 310 of 1000 steps
+  pairmd: 320 of 1000 steps
+  pairmd: 330 of 1000 steps
+  pairmd: 340 of 1000 steps
+  pairmd: 350 of 1000 steps
+  pairmd: 360 of 1000 steps
+  pairmd: 370 of 1000 steps
+  pairmd: 380 of 1000 steps
+  pairmd: 390 of 1000 steps
+  pairmd: 400 of 1000 steps
+  pairmd: 410 of 1000 steps
+  pairmd: 420 of 1000 steps
+  pairmd: 430 of 1000 steps
+  pairmd: 440 of 1000 steps
+  pairmd: 450 of 1000 steps
+  pairmd: 460 of 1000 steps
+  pairmd: 470 of 1000 steps
+  pairmd: 480 of 1000 steps
+  pairmd: 490 of 1000 steps
+  pairmd: 500 of 1000 steps
+  pairmd: 510 of 1000 steps
+  pairmd: 520 of 1000 steps
+  pairmd: 530 of 1000 steps
+  pairmd: 540 of 1000 steps
+  pairmd: 550 of 1000 steps
+  pairmd: 560 of 1000 steps
+  pairmd: 570 of 1000 steps
+  pairmd: 580 of 1000 steps
+  pairmd: 590 of 1000 steps
+  pairmd: 600 of 1000 steps
+  pairmd: 610 of 1000 steps
+  pairmd: 620 of 1000 steps
+  pairmd: 630 of 1000 steps
+  pairmd: 640 of 1000 steps
+  pairmd: 650 of 1000 steps
+  pairmd: 660 of 1000 steps
+  pairmd: 670 of 1000 steps
+  pairmd: 680 of 1000 steps
+  pairmd: 690 of 1000 steps
+  pairmd: 700 of 1000 steps
+  pairmd: 710 of 1000 steps
+  pairmd: 720 of 1000 steps
+  pairmd: 730 of 1000 steps
+  pairmd: 740 of 1000 steps
+  pairmd: 750 of 1000 steps
+  pairmd: 760 of 1000 steps
+  pairmd: 770 of 1000 steps
+  pairmd: 780 of 1000 steps
+  pairmd: 790 of 1000 steps
+  pairmd: 800 of 1000 steps
+  pairmd: 810 of 1000 steps
+  pairmd: 820 of 1000 steps
+  pairmd: 830 of 1000 steps
+  pairmd: 840 of 1000 steps
+  pairmd: 850 of 1000 steps
+  pairmd: 860 of 1000 steps
+  pairmd: 870 of 1000 steps
+  pairmd: 880 of 1000 steps
+  pairmd: 890 of 1000 steps
+  pairmd: 900 of 1000 steps
+  pairmd: 910 of 1000 steps
+  pairmd: 920 of 1000 steps
+  pairmd: 930 of 1000 steps
+  pairmd: 940 of 1000 steps
+  pairmd: 950 of 1000 steps
+  pairmd: 960 of 1000 steps
+  pairmd: 970 of 1000 steps
+  pairmd: 980 of 1000 steps
+  pairmd: 990 of 1000 steps
+  pairmd: 1000 of 1000 steps
+
+A segment without steps has none, nor has one that isn't replayed, or a single state.
+
+  $ pairmd replay job ways --progress
+  7 12 same
+  12 10 same
+  10 7 same
+  7 7 same
+  pairmd: 1 of 5 steps
+  pairmd: 2 of 5 steps
+  pairmd: 3 of 5 steps
+  pairmd: 4 of 5 steps
+  pairmd: 5 of 5 steps
+  pairmd: 1 of 2 steps
+  pairmd: 2 of 2 steps
+  pairmd: 1 of 3 steps
+  pairmd: 2 of 3 steps
+  pairmd: 3 of 3 steps
+  $ pairmd replay --progress job path --part 2/2
+  10 12 same
+  9 -3 same
+  pairmd: 1 of 2 steps
+  pairmd: 2 of 2 steps
+  pairmd: 1 of 12 steps
+  pairmd: 2 of 12 steps
+  pairmd: 3 of 12 steps
+  pairmd: 4 of 12 steps
+  pairmd: 5 of 12 steps
+  pairmd: 6 of 12 steps
+  pairmd: 7 of 12 steps
+  pairmd: 8 of 12 steps
+  pairmd: 9 of 12 steps
+  pairmd: 10 of 12 steps
+  pairmd: 11 of 12 steps
+  pairmd: 12 of 12 steps
+  $ pairmd replay --progress job path --from 9
+  10 12 same
+  12 9 same
+  pairmd: 1 of 2 steps
+  pairmd: 2 of 2 steps
+  pairmd: 1 of 3 steps
+  pairmd: 2 of 3 steps
+  pairmd: 3 of 3 steps
+  $ pairmd replay --progress job path --from 100
+  $ pairmd replay --progress job path --part 5/5
+  $ pairmd replay --progress job state
+
+All progress comes before the error of a stream that isn't of one run, and that of the segments before any other error.
+
+  $ pairmd replay job broken --progress --part 1/2
+  7 10 differs: atom 1 x
+  12 9 same
+  pairmd: 1 of 3 steps
+  pairmd: 2 of 3 steps
+  pairmd: 3 of 3 steps
+  pairmd: 1 of 3 steps
+  pairmd: 2 of 3 steps
+  pairmd: 3 of 3 steps
+  pairmd: A7 NotOneRun 1
+  [1]
+  $ cat path more > longer
+  $ pairmd replay job longer --progress --from 10
+  10 12 same
+  pairmd: 1 of 2 steps
+  pairmd: 2 of 2 steps
+  pairmd: S2 Truncated in state 6
+  [1]
+  $ cat state low state > mixed
+  $ pairmd replay job mixed --progress
+  pairmd: A6 BitsDiffer in state 2
+  [1]
+  $ with job 2 'energy 1/(r-r)' pairmd replay job run --progress
+  pairmd: V2 Fault AR AR r 858993459 pc 12 F2 ZeroDivisor
+  [3]
+  $ pairmd replay missing run --progress
+  pairmd: O1 CannotRead missing
+  [5]
+
+A state that doesn't fit the job is rejected after the steps to it, if they are made.
+
+  $ sed '6c     1KR      KR 17 0 0 21 0 0' tenth > foreign
+  $ cat seventh foreign > mixed
+  $ pairmd replay job mixed --progress
+  pairmd: 1 of 3 steps
+  pairmd: 2 of 3 steps
+  pairmd: 3 of 3 steps
+  pairmd: A1 UnknownType 1 in state 2
+  [1]
+  $ pairmd replay job mixed --progress --from 8
+  pairmd: A1 UnknownType 1 in state 2
+  [1]
+
+The progress of a segment comes before its line. If standard error fails, the output is unchanged.
+
+  $ outputs pairmd replay job run --progress
+  0-8: a beginning, pairmd: 1 of 2 steps
+  pairmd: 2 of 2 steps
+  pairmd: O2 CannotWrite [5]
+  9-17: a beginning, pairmd: 1 of 2 steps
+  pairmd: 2 of 2 steps
+  pairmd: 1 of 2 steps
+  pairmd: 2 of 2 steps
+  pairmd: O2 CannotWrite [5]
+  18: all
+  $ errors pairmd replay job run --progress
+  0-83: each line as far as it is taken
+  84: all
+  $ requests pairmd replay job run --progress
+  pairmd: Memory [4]
+  all
+  pairmd: 1 of 2 steps
+  pairmd: Memory [4]
+  0 2 same
+  pairmd: 1 of 2 steps
+  pairmd: 2 of 2 steps
+  pairmd: Memory [4]
+  0 2 same
+  pairmd: 1 of 2 steps
+  pairmd: 2 of 2 steps
+  pairmd: 1 of 2 steps
+  pairmd: Memory [4]
+
 ## Files, outputs and memory
 
   $ pairmd replay job missing
@@ -482,6 +736,7 @@ Only the derivative's code is needed, not that of the energy itself.
         --from <s>     Replay only between states whose counter is at least s, as --from=-500
         --to <s>       Replay only between states whose counter is at most s
         --part <i/n>   Replay only segments i, i + n, i + 2n, .. of the stream, with i from 1 to n [default: 1/1]
+        --progress     Report progress on standard error
     -h, --help         Print help
   $ pairmd replay job
   error: the following required arguments were not provided:

@@ -3,10 +3,11 @@
 ghost use Rattle.std.specs.Prelude.{None, OnOk};
 ghost use Rattle.state.specs.Sources.{TakesLine};
 
+use crate::texts::Text;
 use cli::{Files, Lines, ReadFault};
 use host::{HostFiles, HostLines};
 use indexmap::IndexMap;
-use std::alloc::{AllocError, Allocator, Global};
+use std::alloc::{Allocator, Global};
 use std::fs;
 use std::io::{BufRead, Input};
 
@@ -14,8 +15,10 @@ use std::io::{BufRead, Input};
 #[derive(Drop)]
 pub(crate) struct Memory<'a, R: fs::Files + Input + AllocGlobal> {
     rt: &'a R,
-    written: IndexMap<String, Vec<u8>>,
+    written: IndexMap<String, Text>,
     system: HostFiles<'a, R>,
+    /// Whether memory for a file ran out.
+    pub(crate) is_cut: bool,
 }
 
 impl<'a, R: fs::Files + Input + AllocGlobal> Memory<'a, R> {
@@ -25,43 +28,26 @@ impl<'a, R: fs::Files + Input + AllocGlobal> Memory<'a, R> {
             rt,
             written: IndexMap::new(alloc),
             system: HostFiles::new(rt),
+            is_cut: false,
         }
     }
 
     /// Writes or overwrites the file with this name.
-    pub(crate) fn write(
-        &mut self,
-        alloc: Global,
-        name: &str,
-        bytes: Vec<u8>,
-    ) -> Result<(), AllocError> {
-        let name = String::from_str(alloc, name)?;
-        self.written.insert(name, bytes)?;
-        Ok(())
-    }
-
-    /// Appends to the file with this name.
-    pub(crate) fn append(
-        &mut self,
-        alloc: Global,
-        name: &str,
-        bytes: &[u8],
-    ) -> Result<(), AllocError> {
-        let mut file = self.bytes(alloc, name)?.unwrap_or(Vec::new(alloc));
-        file.extend_from_slice(bytes)?;
-        self.write(alloc, name, file)
+    pub(crate) fn write(&mut self, alloc: Global, name: &str, text: Text) {
+        self.is_cut |= match String::from_str(alloc, name) {
+            Ok(name) => self.written.insert(name, text).is_err(),
+            Err(_) => true,
+        };
     }
 
     /// The bytes of the file with this name, if it can be read.
-    pub(crate) fn bytes(
-        &mut self,
-        alloc: Global,
-        name: &str,
-    ) -> Result<Option<Vec<u8>>, AllocError> {
+    pub(crate) fn bytes(&mut self, alloc: Global, name: &str) -> Option<Text> {
         match self.read(alloc, name) {
-            Ok(bytes) => Ok(Some(bytes)),
-            Err(ReadFault::CannotRead) => Ok(None),
-            Err(ReadFault::Memory) => Err(AllocError),
+            Ok(bytes) => Some(Text::of(bytes)),
+            Err(fault) => {
+                self.is_cut |= matches!(fault, ReadFault::Memory);
+                None
+            }
         }
     }
 }
@@ -78,7 +64,7 @@ impl<'a, R: fs::Files + Input + AllocGlobal> Files for Memory<'a, R> {
             return self.system.read(alloc, path);
         };
         let mut bytes = Vec::new(alloc);
-        match bytes.extend_from_slice(written) {
+        match bytes.extend_from_slice(written.bytes()) {
             Ok(()) => Ok(bytes),
             Err(_) => Err(ReadFault::Memory),
         }
@@ -91,7 +77,7 @@ impl<'a, R: fs::Files + Input + AllocGlobal> Files for Memory<'a, R> {
                 Err(fault) => Err(fault),
             };
         };
-        match Vec::from_slice(self.rt.alloc(), written) {
+        match Vec::from_slice(self.rt.alloc(), written.bytes()) {
             Ok(bytes) => Ok(MemoryLines::Written { bytes, taken: 0 }),
             Err(_) => Err(ReadFault::Memory),
         }

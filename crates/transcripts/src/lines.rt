@@ -1,6 +1,6 @@
 //! Lines of a transcript.
 
-use std::alloc::AllocError;
+use crate::texts::Text;
 
 /// A line of a transcript, by kind.
 #[derive(Clone, Copy)]
@@ -30,28 +30,20 @@ pub(crate) fn line_of(line: &str) -> Line<'_> {
     }
 }
 
-/// Appends the line and a line feed.
-pub(crate) fn put_line(text: &mut Vec<u8>, line: &[u8]) -> Result<(), AllocError> {
-    text.extend_from_slice(line)?;
-    text.push(b'\n')?;
-    Ok(())
-}
-
 /// Appends the output of a command, as lines of a transcript. A last line without a line feed is marked ` (no-eol)`.
-pub(crate) fn put_printed(transcript: &mut Vec<u8>, printed: &[u8]) -> Result<(), AllocError> {
+pub(crate) fn put_printed(transcript: &mut Text, printed: &[u8]) {
     let Some((last, whole)) = printed.split_last() else {
-        return Ok(());
+        return;
     };
     let lines = if *last == b'\n' { whole } else { printed };
     for line in lines.split(|byte| *byte == b'\n') {
-        transcript.extend_from_slice(b"  ")?;
-        put_line(transcript, line)?;
+        transcript.put(b"  ");
+        transcript.put_line(line);
     }
     if *last != b'\n' {
-        transcript.pop();
-        put_line(transcript, b" (no-eol)")?;
+        transcript.cut_line_feed();
+        transcript.put_line(b" (no-eol)");
     }
-    Ok(())
 }
 
 /// The number, from 1, of the first line in which the texts differ; `None` if they are equal.
@@ -59,11 +51,14 @@ pub(crate) fn first_difference(text: &[u8], other: &[u8]) -> Option<usize> {
     if text == other {
         return None;
     }
-    let same = text.iter().zip(other).take_while(|(a, b)| a == b).count();
-    let ends = text
-        .iter()
-        .take(same)
-        .filter(|byte| **byte == b'\n')
-        .count();
-    ends.checked_add(1)
+    let mut line = 1usize;
+    for (byte, another) in text.iter().zip(other) {
+        if byte != another {
+            break;
+        }
+        if *byte == b'\n' {
+            line = line.saturating_add(1);
+        }
+    }
+    Some(line)
 }

@@ -14,10 +14,10 @@ mod players;
 mod programs;
 mod shell;
 mod sweeps;
+mod texts;
 
 use crate::lines::first_difference;
 use crate::players::Player;
-use std::alloc::AllocError;
 use std::fs::Files;
 use std::io::Input;
 use std::thread::Threads;
@@ -35,14 +35,17 @@ fn main(rt: HostRuntime) -> io::Result<()> {
     Ok(())
 }
 
-/// Plays the transcript in this file, and prints the result.
+/// Plays the transcript in this file, and prints the result. `OutOfMemory`: memory ran out.
 fn play<R: Files + Input + Threads + Sync + AllocGlobal + Print>(
     rt: &R,
     file: &str,
     prints: bool,
 ) -> io::Result<()> {
     let text = fs::read_to_string(rt, file)?;
-    let player = played(rt, &text)?;
+    let player = played(rt, &text);
+    if player.is_cut() {
+        return Err(io::ErrorKind::OutOfMemory.into());
+    }
     if prints {
         return rt.print(String::from_utf8_lossy(rt.alloc(), player.transcript())?);
     }
@@ -51,8 +54,8 @@ fn play<R: Files + Input + Threads + Sync + AllocGlobal + Print>(
         file,
         &text,
         player.transcript(),
-        player.commands(),
-        player.differing(),
+        player.commands,
+        player.differing,
     )
 }
 
@@ -60,13 +63,13 @@ fn play<R: Files + Input + Threads + Sync + AllocGlobal + Print>(
 fn played<'a, R: Files + Input + Threads + Sync + AllocGlobal>(
     rt: &'a R,
     text: &str,
-) -> Result<Player<'a, R>, AllocError> {
+) -> Player<'a, R> {
     let mut player = Player::new(rt);
     for line in text.lines() {
-        player.take(line)?;
+        player.take(line);
     }
     player.compare();
-    Ok(player)
+    player
 }
 
 /// Prints whether the played transcript equals the file.

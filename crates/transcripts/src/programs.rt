@@ -1,12 +1,11 @@
 //! The programs that a transcript can call: `pairmd`, and small ones that make and compare files.
 
 use crate::files::Memory;
-use crate::outcomes::{Outcome, outcome_of};
+use crate::outcomes::{Failures, Outcome, outcome_of, without_text};
 use crate::shell::{Change, listing_of, unescaped};
-use cli::{CommandFault, report};
-use fallible::Collected;
-use std::alloc::{AllocError, Global};
-use std::convert::AsStr;
+use crate::texts::Text;
+use refusing_memory::RefusingAllocator;
+use std::alloc::Global;
 use std::fs::Files;
 use std::io::Input;
 use std::thread::Threads;
@@ -29,77 +28,75 @@ impl<'a, R: Files + Input + Threads + Sync + AllocGlobal> Shell<'a, R> {
 
     /// The outcome of these words. Each `with FILE N TEXT` before them replaces line N of the file by the text, and
     /// each `listing LINES` makes a listing of the lines between commas. After the command, the files are as they were.
-    pub(crate) fn call(&mut self, words: &[&str]) -> Result<Outcome, AllocError> {
-        let alloc = self.rt.alloc();
-        let mut kept = Vec::new(alloc);
+    pub(crate) fn call(&mut self, words: &[&str]) -> Outcome {
+        let mut kept = Vec::new(self.rt.alloc());
         let mut first = 0usize;
         for _ in 0..words.len() {
-            let taken = self.change(words.get(first..).unwrap_or(&[]), &mut kept)?;
+            let taken = self.change(words.get(first..).unwrap_or(&[]), &mut kept);
             first = first.saturating_add(taken);
         }
-        let outcome = self.program(words.get(first..).unwrap_or(&[]))?;
-        self.restore(kept)?;
-        Ok(outcome)
+        let outcome = self.program(words.get(first..).unwrap_or(&[]));
+        self.restore(kept);
+        outcome
     }
 
     /// Changes a file as the first words require. Returns how many words require it, 0 if none do.
-    fn change(
-        &mut self,
-        words: &[&str],
-        kept: &mut Vec<(String, Vec<u8>)>,
-    ) -> Result<usize, AllocError> {
+    fn change<'w>(&mut self, words: &[&'w str], kept: &mut Vec<(&'w str, Text)>) -> usize {
         match words {
             ["with", name, number, text, ..] => {
-                let changed = self.with_line(name, number, text)?;
-                self.replace(name, changed, kept)?;
-                Ok(4)
+                let changed = self.with_line(name, number, text);
+                self.replace(name, changed, kept);
+                4
             }
             ["listing", lines, ..] => {
-                let listing = listing_of(self.rt.alloc(), lines)?;
-                self.replace("listing", listing, kept)?;
-                Ok(2)
+                let listing = listing_of(self.rt.alloc(), lines);
+                self.replace("listing", listing, kept);
+                2
             }
-            _ => Ok(0),
+            _ => 0,
         }
     }
 
     /// Overwrites a file, and keeps its previous contents.
-    fn replace(
-        &mut self,
-        name: &str,
-        bytes: Vec<u8>,
-        kept: &mut Vec<(String, Vec<u8>)>,
-    ) -> Result<(), AllocError> {
-        let alloc = self.rt.alloc();
-        let before = self.files.bytes(alloc, name)?.unwrap_or(Vec::new(alloc));
-        kept.push((String::from_str(alloc, name)?, before))?;
-        self.files.write(alloc, name, bytes)
+    fn replace<'w>(&mut self, name: &'w str, text: Text, kept: &mut Vec<(&'w str, Text)>) {
+        let before = self.bytes_if(name);
+        if kept.push((name, before)).is_err() {
+            self.files.is_cut = true;
+        }
+        self.files.write(self.rt.alloc(), name, text);
     }
 
     /// Restores files, the last changed first.
-    fn restore(&mut self, kept: Vec<(String, Vec<u8>)>) -> Result<(), AllocError> {
-        for (name, bytes) in kept.into_iter().rev() {
-            self.files.write(self.rt.alloc(), name.as_str(), bytes)?;
+    fn restore(&mut self, kept: Vec<(&str, Text)>) {
+        for (name, text) in kept.into_iter().rev() {
+            self.files.write(self.rt.alloc(), name, text);
         }
-        Ok(())
+    }
+
+    /// The text of the file with this name, without bytes if it can't be read.
+    fn bytes_if(&mut self, name: &str) -> Text {
+        let alloc = self.rt.alloc();
+        match self.files.bytes(alloc, name) {
+            Some(text) => text,
+            None => Text::new(alloc),
+        }
     }
 
     /// The file with one of its lines replaced by this text.
-    fn with_line(&mut self, name: &str, number: &str, text: &str) -> Result<Vec<u8>, AllocError> {
-        let alloc = self.rt.alloc();
-        let file = self.files.bytes(alloc, name)?.unwrap_or(Vec::new(alloc));
+    fn with_line(&mut self, name: &str, number: &str, text: &str) -> Text {
+        let file = self.bytes_if(name);
         match number.parse::<usize>() {
-            Ok(line) => Change::put(line, text).of(alloc, &file),
-            Err(_) => Ok(file),
+            Ok(line) => Change::put(line, text).of(self.rt.alloc(), file.bytes()),
+            Err(_) => file,
         }
     }
 
     /// The outcome of a program. Each word before `pairmd` denotes many runs of the command: `workers`, `returns`,
     /// `beginnings`, `outputs`, `errors`, `requests` and `memory`.
-    fn program(&mut self, words: &[&str]) -> Result<Outcome, AllocError> {
+    fn program(&mut self, words: &[&str]) -> Outcome {
         match words {
-            ["pairmd", "$", _] => Ok(self.no_text()),
-            ["pairmd", words @ ..] => Ok(self.pairmd(words)),
+            ["pairmd", "$", _] => without_text(self.rt.alloc()),
+            ["pairmd", words @ ..] => self.pairmd(words),
             ["workers", "pairmd", words @ ..] => self.with_workers(words),
             ["returns", "pairmd", words @ ..] => self.returning(words),
             ["beginnings", name, "pairmd", words @ ..] => self.beginnings(name, words),
@@ -112,111 +109,109 @@ impl<'a, R: Files + Input + Threads + Sync + AllocGlobal> Shell<'a, R> {
     }
 
     /// The outcome of `pairmd`.
-    pub(crate) fn pairmd<S: AsStr>(&mut self, words: &[S]) -> Outcome {
-        outcome_of(self.rt, self.rt.alloc(), words, &mut self.files)
+    pub(crate) fn pairmd(&mut self, words: &[&str]) -> Outcome {
+        self.failing(Failures::default(), words).0
     }
 
-    /// The outcome of `pairmd` with an argument that isn't UTF-8 text.
-    fn no_text(&self) -> Outcome {
-        let alloc = self.rt.alloc();
-        let mut err = Collected::new(alloc);
-        let fault: CommandFault<'_, Global> = CommandFault::NotText;
-        let status = report(alloc, &fault, &mut err);
-        Outcome {
-            out: Vec::new(alloc),
-            err: err.into_bytes(),
-            status,
-        }
+    /// The outcome of `pairmd` with these failures, and the allocator that counted its requests.
+    pub(crate) fn failing(
+        &mut self,
+        failures: Failures,
+        words: &[&str],
+    ) -> (Outcome, RefusingAllocator<Global>) {
+        let memory = RefusingAllocator::new(self.rt.alloc(), failures.request);
+        let outcome = outcome_of(self.rt, &memory, failures, words, &mut self.files);
+        (outcome, memory)
     }
 
     /// The outcome of a program that makes or compares files.
-    fn make(&mut self, words: &[&str]) -> Result<Outcome, AllocError> {
+    fn make(&mut self, words: &[&str]) -> Outcome {
         match words {
             ["cat", names @ ..] => self.joined(names),
             ["cmp", first, second] => self.compared(first, second),
-            ["printf", text] => self.printing(text),
+            ["printf", text] => self.printing(unescaped(self.rt.alloc(), text)),
             ["sed", script, name] => self.changed(script, name),
             ["head", "-c", count, name] => self.cut(count, name),
             ["yes", text, "|", "head", "-n", count] => self.repeated(text, count),
-            _ => Outcome::complaining(self.rt.alloc(), "no such command"),
+            _ => self.complaining(&["no such command"]),
         }
     }
 
-    fn missing(&self, name: &str) -> Result<Outcome, AllocError> {
-        let line = format!(in self.rt.alloc(); "no file {name}")?;
-        Outcome::complaining(self.rt.alloc(), line.as_str())
+    pub(crate) fn printing(&self, text: Text) -> Outcome {
+        Outcome::printing(self.rt.alloc(), text)
     }
 
-    /// The text with its escapes replaced.
-    fn printing(&self, text: &str) -> Result<Outcome, AllocError> {
-        let bytes = unescaped(self.rt.alloc(), text)?;
-        Ok(Outcome::printing(self.rt.alloc(), bytes))
+    pub(crate) fn complaining(&self, parts: &[&str]) -> Outcome {
+        Outcome::complaining(self.rt.alloc(), parts)
+    }
+
+    fn missing(&self, name: &str) -> Outcome {
+        self.complaining(&["no file ", name])
     }
 
     /// The files with these names, concatenated.
-    fn joined(&mut self, names: &[&str]) -> Result<Outcome, AllocError> {
-        let mut all = Vec::new(self.rt.alloc());
+    fn joined(&mut self, names: &[&str]) -> Outcome {
+        let mut all = Text::new(self.rt.alloc());
         for name in names {
-            let Some(bytes) = self.files.bytes(self.rt.alloc(), name)? else {
-                return self.missing(name);
-            };
-            all.extend_from_slice(&bytes)?;
+            match self.files.bytes(self.rt.alloc(), name) {
+                Some(bytes) => all.put_text(&bytes),
+                None => return self.missing(name),
+            }
         }
-        Ok(Outcome::printing(self.rt.alloc(), all))
+        self.printing(all)
     }
 
     /// The comparison of two files: no output if both have the same bytes, and otherwise an error that names them.
-    fn compared(&mut self, first: &str, second: &str) -> Result<Outcome, AllocError> {
+    fn compared(&mut self, first: &str, second: &str) -> Outcome {
         let alloc = self.rt.alloc();
-        let Some(one) = self.files.bytes(alloc, first)? else {
+        let Some(one) = self.files.bytes(alloc, first) else {
             return self.missing(first);
         };
-        let Some(other) = self.files.bytes(alloc, second)? else {
+        let Some(other) = self.files.bytes(alloc, second) else {
             return self.missing(second);
         };
         if one == other {
-            return Ok(Outcome::printing(alloc, Vec::new(alloc)));
+            self.printing(Text::new(alloc))
+        } else {
+            self.complaining(&[first, " ", second, " differ"])
         }
-        let line = format!(in alloc; "{first} {second} differ")?;
-        Outcome::complaining(alloc, line.as_str())
     }
 
     /// The file with one line changed.
-    fn changed(&mut self, script: &str, name: &str) -> Result<Outcome, AllocError> {
+    fn changed(&mut self, script: &str, name: &str) -> Outcome {
         let alloc = self.rt.alloc();
         let Some(change) = Change::read(script) else {
-            return Outcome::complaining(alloc, "no such change");
+            return self.complaining(&["no such change"]);
         };
-        let Some(bytes) = self.files.bytes(alloc, name)? else {
-            return self.missing(name);
-        };
-        Ok(Outcome::printing(alloc, change.of(alloc, &bytes)?))
+        match self.files.bytes(alloc, name) {
+            Some(file) => self.printing(change.of(alloc, file.bytes())),
+            None => self.missing(name),
+        }
     }
 
     /// The first bytes of a file.
-    fn cut(&mut self, count: &str, name: &str) -> Result<Outcome, AllocError> {
-        let alloc = self.rt.alloc();
+    fn cut(&mut self, count: &str, name: &str) -> Outcome {
         let Ok(count) = count.parse::<usize>() else {
-            return Outcome::complaining(alloc, "no number");
+            return self.complaining(&["no number"]);
         };
-        let Some(mut bytes) = self.files.bytes(alloc, name)? else {
-            return self.missing(name);
-        };
-        bytes.truncate(count);
-        Ok(Outcome::printing(alloc, bytes))
+        match self.files.bytes(self.rt.alloc(), name) {
+            Some(mut file) => {
+                file.keep(count);
+                self.printing(file)
+            }
+            None => self.missing(name),
+        }
     }
 
     /// A line, repeated `count` times.
-    fn repeated(&self, line: &str, count: &str) -> Result<Outcome, AllocError> {
-        let alloc = self.rt.alloc();
+    fn repeated(&self, line: &str, count: &str) -> Outcome {
         let Ok(count) = count.parse::<u32>() else {
-            return Outcome::complaining(alloc, "no number");
+            return self.complaining(&["no number"]);
         };
-        let mut lines = Vec::new(alloc);
+        let mut lines = Text::new(self.rt.alloc());
         for _ in 0..count {
-            lines.extend_from_slice(line.as_bytes())?;
-            lines.push(b'\n')?;
+            lines.put_line(line.as_bytes());
         }
-        Ok(Outcome::printing(alloc, lines))
+        self.printing(lines)
     }
 }

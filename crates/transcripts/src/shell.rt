@@ -1,5 +1,6 @@
 //! Words of a command, and the file operations of the small programs.
 
+use crate::texts::Text;
 use std::alloc::{AllocError, Global};
 
 /// The words of a command: the parts between blanks, and the parts between two single quotation marks.
@@ -18,22 +19,22 @@ pub(crate) fn words_of(alloc: Global, command: &str) -> Result<Vec<&str>, AllocE
 }
 
 /// The text with each escape replaced by its byte: `\n`, `\r`, `\t`, and `\xHH` with two hexadecimal digits.
-pub(crate) fn unescaped(alloc: Global, text: &str) -> Result<Vec<u8>, AllocError> {
-    let mut bytes = Vec::new(alloc);
+pub(crate) fn unescaped(alloc: Global, text: &str) -> Text {
+    let mut bytes = Text::new(alloc);
     let mut is_first = true;
     for part in text.split('\\') {
         if is_first {
-            bytes.extend_from_slice(part.as_bytes())?;
+            bytes.put(part.as_bytes());
         } else {
-            put_escape(&mut bytes, part.as_bytes())?;
+            put_escape(&mut bytes, part.as_bytes());
         }
         is_first = false;
     }
-    Ok(bytes)
+    bytes
 }
 
 /// Appends the byte of an escape, and the rest of the part; `part` is the text after the backslash.
-fn put_escape(bytes: &mut Vec<u8>, part: &[u8]) -> Result<(), AllocError> {
+fn put_escape(bytes: &mut Text, part: &[u8]) {
     let (byte, others) = match part {
         [b'n', others @ ..] => (b'\n', others),
         [b'r', others @ ..] => (b'\r', others),
@@ -41,9 +42,8 @@ fn put_escape(bytes: &mut Vec<u8>, part: &[u8]) -> Result<(), AllocError> {
         [b'x', high, low, others @ ..] => (hexadecimal(*high, *low), others),
         _ => (b'\\', part),
     };
-    bytes.push(byte)?;
-    bytes.extend_from_slice(others)?;
-    Ok(())
+    bytes.put(&[byte]);
+    bytes.put(others);
 }
 
 fn hexadecimal(high: u8, low: u8) -> u8 {
@@ -90,28 +90,28 @@ impl<'a> Change<'a> {
     }
 
     /// The file with the change made.
-    pub(crate) fn of(&self, alloc: Global, file: &[u8]) -> Result<Vec<u8>, AllocError> {
-        let mut changed = Vec::new(alloc);
+    pub(crate) fn of(&self, alloc: Global, file: &[u8]) -> Text {
+        let mut changed = Text::new(alloc);
         let mut left = self.line;
         for line in file.split_inclusive(|byte| *byte == b'\n') {
             if left != 1 {
-                changed.extend_from_slice(line)?;
+                changed.put(line);
             } else if let Some(text) = self.text {
-                changed.append(&mut unescaped(alloc, text)?)?;
-                changed.push(b'\n')?;
+                changed.put_text(&unescaped(alloc, text));
+                changed.put(b"\n");
             }
             left = left.saturating_sub(1);
         }
-        Ok(changed)
+        changed
     }
 }
 
 /// The listing with these lines, separated by commas, after its first line.
-pub(crate) fn listing_of(alloc: Global, lines: &str) -> Result<Vec<u8>, AllocError> {
-    let mut listing = Vec::from_slice(alloc, b"pairmd code 1\n")?;
+pub(crate) fn listing_of(alloc: Global, lines: &str) -> Text {
+    let mut listing = Text::new(alloc);
+    listing.put_line(b"pairmd code 1");
     for line in lines.split(',') {
-        listing.extend_from_slice(line.trim().as_bytes())?;
-        listing.push(b'\n')?;
+        listing.put_line(line.trim().as_bytes());
     }
-    Ok(listing)
+    listing
 }

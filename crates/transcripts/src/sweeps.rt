@@ -2,12 +2,10 @@
 //! outputs, with failing error outputs, with each request for memory failing in turn, and with a count of the workers'
 //! requests.
 
-use crate::lines::put_line;
-use crate::outcomes::{Outcome, outcome_beside, outcome_of, outcome_onto};
+use crate::outcomes::{Failure, Failures, Outcome};
 use crate::programs::Shell;
-use refusing_memory::RefusingAllocator;
+use crate::texts::Text;
 use std::alloc::{AllocError, Global};
-use std::convert::AsStr;
 use std::fs::Files;
 use std::io::Input;
 use std::thread::Threads;
@@ -19,268 +17,207 @@ const REQUESTS: u64 = 1_000_000;
 
 impl<'a, R: Files + Input + Threads + Sync + AllocGlobal> Shell<'a, R> {
     /// The outcome of a command, if it is the same with 1, 2, 3 and 64 workers.
-    pub(crate) fn with_workers<S: AsStr>(&mut self, words: &[S]) -> Result<Outcome, AllocError> {
+    pub(crate) fn with_workers(&mut self, words: &[&str]) -> Outcome {
         let alone = self.pairmd(words);
         for workers in WORKERS {
-            if !self.is_same_by(workers, words, &alone)? {
-                return self.another_by(workers);
+            let (outcome, _) = self.by_workers(workers, words);
+            if outcome != alone {
+                return self.complaining(&["another outcome by ", workers, " workers"]);
             }
         }
-        Ok(alone)
+        alone
     }
 
-    fn is_same_by<S: AsStr>(
-        &mut self,
-        workers: &str,
-        words: &[S],
-        alone: &Outcome,
-    ) -> Result<bool, AllocError> {
-        let words = by_workers(self.rt.alloc(), words, workers)?;
-        Ok(self.pairmd(words.as_slice()) == *alone)
-    }
-
-    fn another_by(&self, workers: &str) -> Result<Outcome, AllocError> {
-        let line = format!(in self.rt.alloc(); "another outcome by {workers} workers")?;
-        Outcome::complaining(self.rt.alloc(), line.as_str())
+    /// The outcome of a command with the option `--workers`, and the number of its requests for memory.
+    fn by_workers(&mut self, workers: &str, words: &[&str]) -> (Outcome, u64) {
+        let alloc = self.rt.alloc();
+        match words_by_workers(alloc, words, workers) {
+            Ok(words) => {
+                let (outcome, memory) = self.failing(Failures::default(), &words);
+                (outcome, memory.requests())
+            }
+            Err(_) => (self.complaining(&["no memory"]), 0),
+        }
     }
 
     /// The outcome of `run` or `back` with 1, 2, 3 and 64 workers, if the same number of steps in the other direction
     /// leads to the state's bytes.
-    pub(crate) fn returning(&mut self, words: &[&str]) -> Result<Outcome, AllocError> {
-        let there = self.with_workers(words)?;
-        if self.comes_back(&there, words)? {
-            return Ok(there);
+    pub(crate) fn returning(&mut self, words: &[&str]) -> Outcome {
+        let there = self.with_workers(words);
+        if self.comes_back(&there, words) {
+            there
+        } else {
+            self.complaining(&["it does not return"])
         }
-        Outcome::complaining(self.rt.alloc(), "it does not return")
     }
 
-    fn comes_back(&mut self, there: &Outcome, words: &[&str]) -> Result<bool, AllocError> {
+    fn comes_back(&mut self, there: &Outcome, words: &[&str]) -> bool {
         let alloc = self.rt.alloc();
-        self.files.write(alloc, "there", there.out.clone()?)?;
-        let back = words_back(alloc, words)?;
-        let again = self.with_workers(&back)?;
+        let mut text = Text::new(alloc);
+        text.put_text(&there.out);
+        self.files.write(alloc, "there", text);
+        let Ok(back) = words_back(alloc, words) else {
+            return false;
+        };
+        let again = self.with_workers(&back);
         let state = words.get(2).copied().unwrap_or("");
-        Ok(again.status == 0 && Some(again.out) == self.files.bytes(alloc, state)?)
+        again.status == 0 && self.files.bytes(alloc, state) == Some(again.out)
     }
 
     /// The outcomes of a command with this file cut off after each number of bytes, from none to all.
-    pub(crate) fn beginnings(&mut self, name: &str, words: &[&str]) -> Result<Outcome, AllocError> {
-        let alloc = self.rt.alloc();
-        let Some(whole) = self.files.bytes(alloc, name)? else {
-            return Outcome::complaining(alloc, "no such file");
-        };
-        let ranges = self.over_beginnings(name, &whole, words)?;
-        Ok(Outcome::printing(alloc, ranges.told(alloc)?))
+    pub(crate) fn beginnings(&mut self, name: &str, words: &[&str]) -> Outcome {
+        match self.files.bytes(self.rt.alloc(), name) {
+            Some(whole) => self.over_beginnings(name, whole.bytes(), words),
+            None => self.complaining(&["no such file"]),
+        }
     }
 
     /// The outcomes over each beginning of these bytes. In the end the file has all bytes.
-    fn over_beginnings(
-        &mut self,
-        name: &str,
-        whole: &[u8],
-        words: &[&str],
-    ) -> Result<Ranges, AllocError> {
-        let mut ranges = Ranges::new(self.rt.alloc());
-        for count in 0..=whole.len() {
-            let beginning = whole.get(..count).unwrap_or(whole);
-            let summary = self.summary_over(name, beginning, words);
-            ranges.note(self.rt.alloc(), summary?)?;
-        }
-        Ok(ranges)
-    }
-
-    /// The summary of a command's outcome when a file has these bytes.
-    fn summary_over(
-        &mut self,
-        name: &str,
-        bytes: &[u8],
-        words: &[&str],
-    ) -> Result<Vec<u8>, AllocError> {
+    fn over_beginnings(&mut self, name: &str, whole: &[u8], words: &[&str]) -> Outcome {
         let alloc = self.rt.alloc();
-        self.files
-            .write(alloc, name, Vec::from_slice(alloc, bytes)?)?;
-        self.pairmd(words).summary(alloc)
+        let mut ranges = Ranges::new(alloc);
+        for count in 0..=whole.len() {
+            let mut beginning = Text::new(alloc);
+            beginning.put(whole.get(..count).unwrap_or(whole));
+            self.files.write(alloc, name, beginning);
+            ranges.note(alloc, self.pairmd(words).summary(alloc));
+        }
+        self.printing(ranges.told(alloc))
     }
 
     /// The outcomes of a command on an output that takes n bytes and then fails, for each n from none to all.
-    pub(crate) fn failing_outputs(&mut self, words: &[&str]) -> Result<Outcome, AllocError> {
+    pub(crate) fn failing_outputs(&mut self, words: &[&str]) -> Outcome {
+        let alloc = self.rt.alloc();
         let whole = self.pairmd(words);
-        let ranges = self.over_outputs(words, &whole)?;
-        let alloc = self.rt.alloc();
-        Ok(Outcome::printing(alloc, ranges.told(alloc)?))
-    }
-
-    fn over_outputs(&mut self, words: &[&str], whole: &Outcome) -> Result<Ranges, AllocError> {
-        let alloc = self.rt.alloc();
         let mut ranges = Ranges::new(alloc);
-        for left in 0..=whole.out.len() {
-            let outcome = outcome_onto(self.rt, left, words, &mut self.files);
-            let part = beginning_of(alloc, outcome, left, whole);
-            ranges.note(alloc, part?)?;
+        for left in 0..=whole.out.bytes().len() {
+            let (outcome, _) = self.failing(Failures::of_out(left), words);
+            ranges.note(alloc, beginning_of(alloc, &outcome, left, &whole));
         }
-        Ok(ranges)
+        self.printing(ranges.told(alloc))
     }
 
     /// The outcomes of a command with an error output that takes n bytes and then fails, once and always, for each n
     /// from none to all.
-    pub(crate) fn failing_errors(&mut self, words: &[&str]) -> Result<Outcome, AllocError> {
+    pub(crate) fn failing_errors(&mut self, words: &[&str]) -> Outcome {
         let alloc = self.rt.alloc();
         let whole = self.pairmd(words);
         let mut ranges = Ranges::new(alloc);
-        for left in 0..=whole.err.len() {
-            let once = outcome_beside(self.rt, left, true, words, &mut self.files);
-            let ever = outcome_beside(self.rt, left, false, words, &mut self.files);
-            ranges.note(alloc, told_beside(alloc, &once, &ever, left, &whole)?)?;
+        for left in 0..=whole.err.bytes().len() {
+            let (once, _) = self.failing(Failures::of_err(left, true), words);
+            let (ever, _) = self.failing(Failures::of_err(left, false), words);
+            ranges.note(alloc, told_beside(alloc, &once, &ever, left, &whole));
         }
-        Ok(Outcome::printing(alloc, ranges.told(alloc)?))
+        self.printing(ranges.told(alloc))
     }
 
     /// The outcomes of a command with each of its requests for memory failing in turn: each different outcome once, in
     /// order of appearance. `all` denotes the outcome without a failed request.
-    pub(crate) fn refused_requests(&mut self, words: &[&str]) -> Result<Outcome, AllocError> {
+    pub(crate) fn refused_requests(&mut self, words: &[&str]) -> Outcome {
         let alloc = self.rt.alloc();
         let whole = self.pairmd(words);
-        let told = self.over_requests(words, &whole)?;
-        let mut text = Vec::new(alloc);
-        for summary in &told {
-            put_line(&mut text, summary)?;
-        }
-        Ok(Outcome::printing(alloc, text))
-    }
-
-    fn over_requests(
-        &mut self,
-        words: &[&str],
-        whole: &Outcome,
-    ) -> Result<Vec<Vec<u8>>, AllocError> {
-        let mut told: Vec<Vec<u8>> = Vec::new(self.rt.alloc());
+        let mut different = Vec::new(alloc);
+        let mut text = Text::new(alloc);
         for number in 0..REQUESTS {
-            if !self.without_request(number, words, whole, &mut told)? {
+            let (summary, is_refused) = self.without_request(number, words, &whole);
+            if !different.contains(&summary) {
+                text.put_text(&summary);
+                text.put(b"\n");
+                if different.push(summary).is_err() {
+                    text.cut();
+                }
+            }
+            if !is_refused {
                 break;
             }
         }
-        Ok(told)
+        self.printing(text)
     }
 
-    /// The outcome of a command in which the request with this index fails, and the allocator that counted its
-    /// requests.
-    fn refusing<S: AsStr>(
-        &mut self,
-        number: u64,
-        words: &[S],
-    ) -> (Outcome, RefusingAllocator<Global>) {
-        let memory = RefusingAllocator::new(self.rt.alloc(), number);
-        let outcome = outcome_of(self.rt, &memory, words, &mut self.files);
-        (outcome, memory)
-    }
-
-    /// Adds the outcome of a command in which the request with this index fails, and returns whether there was such a
-    /// request.
-    fn without_request(
-        &mut self,
-        number: u64,
-        words: &[&str],
-        whole: &Outcome,
-        told: &mut Vec<Vec<u8>>,
-    ) -> Result<bool, AllocError> {
+    /// The outcome of a command in which the request with this index fails, and whether there was such a request.
+    fn without_request(&mut self, number: u64, words: &[&str], whole: &Outcome) -> (Text, bool) {
         let alloc = self.rt.alloc();
-        let (outcome, memory) = self.refusing(number, words);
-        let mut summary = summary_beside(alloc, outcome, whole)?;
+        let (outcome, memory) = self.failing(Failures::of_request(number), words);
+        let mut summary = summary_beside(alloc, &outcome, whole);
         if memory.blocks() != 0 {
-            summary.extend_from_slice(b", and memory is left behind")?;
+            summary.put(b", and memory is left behind");
         }
-        if !told.contains(&summary) {
-            told.push(summary)?;
-        }
-        Ok(memory.requests() > number)
+        (summary, memory.requests() > number)
     }
 
     /// How many more requests for memory a command makes with 2 workers than with 1, and with 3 than with 2.
-    pub(crate) fn requests_of_workers(&mut self, words: &[&str]) -> Result<Outcome, AllocError> {
+    pub(crate) fn requests_of_workers(&mut self, words: &[&str]) -> Outcome {
         let alloc = self.rt.alloc();
-        let mut fewer = self.requests_by("1", words)?;
-        let mut text = Vec::new(alloc);
+        let (_, mut fewer) = self.by_workers("1", words);
+        let mut text = Text::new(alloc);
         for workers in ["2", "3"] {
-            let requests = self.requests_by(workers, words)?;
-            let more = requests.saturating_sub(fewer);
-            let line = format!(in alloc; "{workers} workers: {more} requests more")?;
-            put_line(&mut text, line.as_bytes())?;
+            let (outcome, requests) = self.by_workers(workers, words);
+            if outcome.out.is_cut() {
+                text.cut();
+            }
+            text.put(workers.as_bytes());
+            text.put(b" workers: ");
+            text.put_number(alloc, requests.saturating_sub(fewer));
+            text.put(b" requests more\n");
             fewer = requests;
         }
-        Ok(Outcome::printing(alloc, text))
-    }
-
-    fn requests_by(&mut self, workers: &str, words: &[&str]) -> Result<u64, AllocError> {
-        let words = by_workers(self.rt.alloc(), words, workers)?;
-        let (_, memory) = self.refusing(REQUESTS, &words);
-        Ok(memory.requests())
+        self.printing(text)
     }
 }
 
 /// The arguments with the option `--workers`.
-fn by_workers<S: AsStr>(
+fn words_by_workers<'a>(
     alloc: Global,
-    words: &[S],
-    workers: &str,
-) -> Result<Vec<String>, AllocError> {
-    let mut all = Vec::new(alloc);
-    for word in words {
-        all.push(String::from_str(alloc, word.as_str())?)?;
-    }
-    all.push(String::from_str(alloc, "--workers")?)?;
-    all.push(String::from_str(alloc, workers)?)?;
+    words: &[&'a str],
+    workers: &'a str,
+) -> Result<Vec<&'a str>, AllocError> {
+    let mut all = Vec::from_slice(alloc, words)?;
+    all.extend_from_slice(&["--workers", workers])?;
     Ok(all)
 }
 
 /// The arguments of the same number of steps in the other direction, from the state in the file `there`.
-fn words_back(alloc: Global, words: &[&str]) -> Result<Vec<String>, AllocError> {
+fn words_back<'a>(alloc: Global, words: &[&'a str]) -> Result<Vec<&'a str>, AllocError> {
     let mut back = Vec::new(alloc);
     for (index, word) in words.iter().enumerate() {
-        let turned = match (index, *word) {
+        back.push(match (index, *word) {
             (0, "run") => "back",
             (0, _) => "run",
             (2, _) => "there",
             (_, word) => word,
-        };
-        back.push(String::from_str(alloc, turned)?)?;
+        })?;
     }
     Ok(back)
 }
 
 /// The outcome's summary, or `all` if it is the whole outcome.
-fn summary_beside(alloc: Global, outcome: Outcome, whole: &Outcome) -> Result<Vec<u8>, AllocError> {
-    if outcome == *whole {
-        return Vec::from_slice(alloc, b"all");
+fn summary_beside(alloc: Global, outcome: &Outcome, whole: &Outcome) -> Text {
+    if outcome != whole {
+        return outcome.summary(alloc);
     }
-    outcome.summary(alloc)
+    let mut text = Text::new(alloc);
+    text.put(b"all");
+    text
 }
 
 /// The part of the whole output that an output of `left` bytes holds, and the line of the error.
-fn beginning_of(
-    alloc: Global,
-    outcome: Outcome,
-    left: usize,
-    whole: &Outcome,
-) -> Result<Vec<u8>, AllocError> {
-    let Outcome { out, err, status } = outcome;
-    let part = if out == whole.out {
-        "all"
-    } else if out.len() == left && whole.out.starts_with(&out) {
-        "a beginning"
+fn beginning_of(alloc: Global, outcome: &Outcome, left: usize, whole: &Outcome) -> Text {
+    let out = outcome.out.bytes();
+    let mut text = Text::new(alloc);
+    if outcome.out == whole.out {
+        text.put(b"all");
+    } else if out.len() == left && whole.out.bytes().starts_with(out) {
+        text.put(b"a beginning");
     } else {
-        "something else"
-    };
-    let mut text = Vec::from_slice(alloc, part.as_bytes())?;
-    let refusal = Outcome {
-        out: Vec::new(alloc),
-        err,
-        status,
-    };
-    if refusal.status != 0 {
-        text.extend_from_slice(b", ")?;
-        text.extend_from_slice(&refusal.summary(alloc)?)?;
+        text.put(b"something else");
     }
-    Ok(text)
+    if outcome.status != 0 {
+        text.put(b", ");
+        text.put_text(&outcome.err);
+        text.cut_line_feed();
+        outcome.put_status(alloc, &mut text);
+    }
+    text
 }
 
 /// The comparison of an error output that took `left` bytes and then failed, once and always, with the whole outcome.
@@ -293,78 +230,86 @@ fn told_beside(
     ever: &Outcome,
     left: usize,
     whole: &Outcome,
-) -> Result<Vec<u8>, AllocError> {
-    let is_same = once.out == whole.out
-        && ever.out == whole.out
-        && once.status == whole.status
-        && ever.status == whole.status;
-    let taken = whole.err.get(..left).unwrap_or(&whole.err);
-    let rest = whole.err.get(left..).unwrap_or(&[]);
-    let mut lines = Vec::from_slice(alloc, taken)?;
-    if let Some(end) = rest.iter().position(|byte| *byte == b'\n') {
-        lines.extend_from_slice(rest.get(end.saturating_add(1)..).unwrap_or(&[]))?;
-    }
-    let told: &[u8] = if !is_same || ever.err.as_slice() != taken || once.err != lines {
-        b"something else"
+) -> Text {
+    let all = whole.err.bytes();
+    let taken = all.get(..left).unwrap_or(all);
+    let rest = all.get(left..).unwrap_or(&[]);
+    let mut lines = Text::new(alloc);
+    lines.put(taken);
+    lines.put(after_line(rest));
+    let mut told = Text::new(alloc);
+    if !once.agrees(whole)
+        || !ever.agrees(whole)
+        || ever.err.bytes() != taken
+        || once.err != lines
+    {
+        told.put(b"something else");
     } else if rest.is_empty() {
-        b"all"
+        told.put(b"all");
     } else {
-        b"each line as far as it is taken"
-    };
-    Vec::from_slice(alloc, told)
+        told.put(b"each line as far as it is taken");
+    }
+    told
+}
+
+/// The bytes after the first line feed, none if there is none.
+fn after_line(bytes: &[u8]) -> &[u8] {
+    match bytes.iter().position(|byte| *byte == b'\n') {
+        Some(end) => bytes.get(end.saturating_add(1)..).unwrap_or(&[]),
+        None => &[],
+    }
 }
 
 /// The outcomes of commands numbered from 0; equal outcomes in a row are printed once.
 #[derive(Drop)]
 struct Ranges {
-    text: Vec<u8>,
-    first: usize,
-    next: usize,
-    summary: Vec<u8>,
+    text: Text,
+    first: u64,
+    next: u64,
+    summary: Text,
 }
 
 impl Ranges {
     fn new(alloc: Global) -> Ranges {
         Ranges {
-            text: Vec::new(alloc),
+            text: Text::new(alloc),
             first: 0,
             next: 0,
-            summary: Vec::new(alloc),
+            summary: Text::new(alloc),
         }
     }
 
     /// Records the summary of the next command.
-    fn note(&mut self, alloc: Global, summary: Vec<u8>) -> Result<(), AllocError> {
+    fn note(&mut self, alloc: Global, summary: Text) {
         if summary != self.summary {
-            self.tell(alloc)?;
+            self.tell(alloc);
             self.first = self.next;
             self.summary = summary;
         }
         self.next = self.next.saturating_add(1);
-        Ok(())
     }
 
     /// Appends the summary of the last commands.
-    fn tell(&mut self, alloc: Global) -> Result<(), AllocError> {
+    fn tell(&mut self, alloc: Global) {
         if self.first == self.next {
-            return Ok(());
+            return;
         }
-        let first = self.first;
         let last = self.next.saturating_sub(1);
-        let numbers = if first == last {
-            format!(in alloc; "{first}: ")?
-        } else {
-            format!(in alloc; "{first}-{last}: ")?
-        };
-        self.text.extend_from_slice(numbers.as_bytes())?;
-        put_line(&mut self.text, &self.summary)
+        self.text.put_number(alloc, self.first);
+        if self.first != last {
+            self.text.put(b"-");
+            self.text.put_number(alloc, last);
+        }
+        self.text.put(b": ");
+        self.text.put_text(&self.summary);
+        self.text.put(b"\n");
     }
 
     /// The text of all summaries.
-    fn told(self, alloc: Global) -> Result<Vec<u8>, AllocError> {
+    fn told(self, alloc: Global) -> Text {
         let mut ranges = self;
-        ranges.tell(alloc)?;
+        ranges.tell(alloc);
         let Ranges { text, .. } = ranges;
-        Ok(text)
+        text
     }
 }
