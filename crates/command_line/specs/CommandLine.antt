@@ -165,9 +165,10 @@ stepping name = (stepped name).top
 abbrev pub visiting : Text → Shape
 visiting name = (taking (stepped name) (every_rule ∷ flag_rule (codes "back") ∷ [])).top
 
--- `replay`, which takes a job, a stream of states, a number of workers, and which segments it replays
+-- `replay`, which takes a job, a stream of states, a number of workers, which segments it replays, and `--progress`
 abbrev pub replaying : Shape
-replaying = (of_job (codes "replay") (operand_rule (codes "STATES") ∷ workers_rule ∷ from_rule ∷ to_rule ∷ part_rule ∷ [])).top
+replaying = (of_job (codes "replay") (operand_rule (codes "STATES") ∷ workers_rule ∷ from_rule ∷ to_rule ∷ part_rule
+    ∷ flag_rule (codes "progress") ∷ [])).top
 
 -- the command `observe` with the arguments of `visiting`; the defaults are 0 steps, and a row after each step
 abbrev pub observed : App
@@ -416,7 +417,7 @@ visits_usage = Takes (codes "back") AFlag (λ back. followed_by (run_usage (turn
 abbrev pub replay_usage : Usage CommandView
 replay_usage = Takes (codes "JOB") AText (λ job. Takes (codes "STATES") AText (λ states. Takes (codes "workers") (ANumber 1 64)
     (λ workers. Takes (codes "from") ACounter (λ from. Takes (codes "to") ACounter (λ to. Takes (codes "part") APart
-    (λ part. Gives (Replay (record {
+    (λ part. Takes (codes "progress") AFlag (λ progress. Gives (Replay (record {
       job = job;
       states = states;
       workers = workers;
@@ -424,7 +425,8 @@ replay_usage = Takes (codes "JOB") AText (λ job. Takes (codes "STATES") AText (
       to = to;
       part = part.0;
       parts = part.1;
-    }))))))))
+      progress = progress;
+    })))))))))
 
 abbrev pub table_usage : Usage Table
 table_usage = Takes (codes "exact") AFlag

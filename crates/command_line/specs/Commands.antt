@@ -20,8 +20,8 @@ pub record VisitsView : Type 0 where
   pub run : RunView
   pub every : ℕ
 
--- the arguments of `replay`: a job, a stream of states, the number of workers, the range of the replayed counters, and the
--- part of all segments that is replayed
+-- the arguments of `replay`: a job, a stream of states, the number of workers, the range of the replayed counters, the
+-- part of all segments that is replayed, and whether progress is reported
 pub record ReplayView : Type 0 where
   pub job : Text
   pub states : Text
@@ -30,6 +30,7 @@ pub record ReplayView : Type 0 where
   pub to : ℤ
   pub part : ℕ
   pub parts : ℕ
+  pub progress : Bool
 
 -- the arguments of a command with `--each`: a job, a stream of states, and the text that shows a state
 pub record EachView : Type 0 where

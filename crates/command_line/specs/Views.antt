@@ -38,6 +38,7 @@ replay_view r = record {
   to = r.to;
   part = r.part;
   parts = r.parts;
+  progress = r.progress;
 }
 
 abbrev pub each_view : Each → EachView

@@ -6,7 +6,7 @@ ghost use Rattle.explanations.specs.Explanations.{text_for};
 use integrator::Direction;
 
 /// The version of the program, which `--version` prints.
-pub const VERSION: &str = "1.5.0";
+pub const VERSION: &str = "1.6.0";
 
 /// The most steps that one command takes.
 pub const MAX_STEPS: u64 = 1_000_000_000_000;
@@ -110,6 +110,8 @@ pub struct Replay<'a> {
     pub part: u64,
     /// The number of parts that the segments are divided into, from 1.
     pub parts: u64,
+    /// Whether the replay reports its progress on standard error.
+    pub progress: bool,
     ghost some: { 1 ≤ workers },
     ghost few: { workers ≤ 64 },
     ghost first: { 1 ≤ part },

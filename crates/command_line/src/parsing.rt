@@ -236,6 +236,7 @@ fn replay_of<'a>(matches: &ArgMatches<'a>) -> Option<Command<'a>>
     let from = counter_of(matches, "from")?;
     let to = counter_of(matches, "to")?;
     let (part, parts) = part_of(matches)?;
+    let progress = is_given(matches, "progress");
     Some(Command::Replay(Replay {
         job,
         states,
@@ -244,6 +245,7 @@ fn replay_of<'a>(matches: &ArgMatches<'a>) -> Option<Command<'a>>
         to,
         part,
         parts,
+        progress,
     }))
 }
 
@@ -492,7 +494,8 @@ pub(crate) fn visiting<'a>(alloc: Global, name: &'a str, about: &'a str) -> Buil
     with_arg(with_arg(command, every(alloc)), back)
 }
 
-/// The command that takes a job, a stream of states, a number of workers, and which segments of the stream it replays.
+/// The command that takes a job, a stream of states, a number of workers, which segments of the stream it replays, and
+/// `--progress`.
 pub(crate) fn replaying<'a>(alloc: Global) -> BuiltCommand<'a>
     ensures { IsShaped result replaying }
 {
@@ -500,7 +503,8 @@ pub(crate) fn replaying<'a>(alloc: Global) -> BuiltCommand<'a>
     let states = operand(alloc, "STATES", "Stream of states, as 'states' prints them");
     let command = with_arg(of_job(alloc, "replay", about), states);
     let command = with_arg(with_arg(command, workers(alloc)), from(alloc));
-    with_arg(with_arg(command, to(alloc)), part(alloc))
+    let command = with_arg(with_arg(command, to(alloc)), part(alloc));
+    with_arg(command, progress(alloc))
 }
 
 /// The command `observe` with the arguments of `visiting`; the defaults are 0 steps, and a row after each step.

@@ -20,6 +20,14 @@ returns c = (
   (
     _,
     sym c.in_ok-states.ensures,
-    (_, c.in_ok-workers.ensures, (_, c.in_ok-from.ensures, (_, c.in_ok-to.ensures, (_, c.in_ok-part.ensures, search rules)))),
+    (
+      _,
+      c.in_ok-workers.ensures,
+      (
+        _,
+        c.in_ok-from.ensures,
+        (_, c.in_ok-to.ensures, (_, c.in_ok-part.ensures, (_, c.is_given-progress.ensures, search rules))),
+      ),
+    ),
   ),
 )

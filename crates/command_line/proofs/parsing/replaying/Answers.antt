@@ -7,4 +7,5 @@ returns c =
     let workers = c.with_arg.ensures _ _ states c.workers.ensures in
     let from = c.with_arg-command-2.ensures _ _ workers c.from.ensures in
     let to = c.with_arg-2.ensures _ _ from c.to.ensures in
-    shaped _ _ (c.with_arg-3.ensures _ _ to c.part.ensures)
+    let part = c.with_arg-command-3.ensures _ _ to c.part.ensures in
+    shaped _ _ (c.with_arg-3.ensures _ _ part c.progress.ensures)
