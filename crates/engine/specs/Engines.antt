@@ -88,7 +88,8 @@ FitsIfDone direction n done e = 0 < done → is_none (counter_after direction e.
 -- `done` whole steps, at most n - 1 (0 if n is 0).
 abbrev pub Stopped : Direction → ℕ → EngineView → EngineView → StepFault → Type 0
 Stopped direction n before after step.StepRange = (counter_after direction before.state.step n ≡ None) × (after ≡ before)
-Stopped direction n before after (step.Memory done) = (done ≤ n - 1) × FitsIfDone direction n done before × Advanced direction done before after
+Stopped direction n before after (step.Memory done) =
+    (done ≤ n - 1) × FitsIfDone direction n done before × Advanced direction done before after
 
 -- ---- from bytes to bytes
 

@@ -112,7 +112,8 @@ module _ (j : JobValue) (tree : Tree) (sides types : List ℕ) where
   pub data IsPairForce (pair : ℕ × ℕ) (a b : Place3) (v : Vector ℤ) : Type 0 where
     far : acting_distance_of j.frac (box_of sides) j.core j.cutoff a b ≡ None → v ≡ no_force → IsPairForce pair a b v
     together : square_of (box_of sides) a b ≡ 0 → v ≡ no_force → IsPairForce pair a b v
-    near : (r slope : ℤ) → acting_distance_of j.frac (box_of sides) j.core j.cutoff a b ≡ Some r → slope_of (bits_of j.frac) (inputs pair r) tree ≡ Some slope
+    near : (r slope : ℤ) → acting_distance_of j.frac (box_of sides) j.core j.cutoff a b ≡ Some r
+        → slope_of (bits_of j.frac) (inputs pair r) tree ≡ Some slope
         → v ≡ force_along_of (box_of sides) (neg_ℤ slope) a b → IsPairForce pair a b v
 
   -- The next position of an atom of the mass m that was at a, is at b, and feels the force v there: on each axis 2 b -
@@ -128,10 +129,12 @@ module _ (j : JobValue) (tree : Tree) (sides types : List ℕ) where
   -- of the contributions of all pairs. A pair contributes its force to its first atom, and the negative to its second.
   pub record Follows (p c n : List Place3) : Type 0 where
     pub force : ℕ × ℕ → Vector ℤ
-    pub forces : All (λ pair. IsPairForce pair (slice_index_or c pair.0 no_place) (slice_index_or c pair.1 no_place) (force pair)) (pairs_of (length c))
+    pub forces : All (λ pair. IsPairForce pair (slice_index_or c pair.0 no_place) (slice_index_or c pair.1 no_place) (force pair))
+        (pairs_of (length c))
     pub atoms : length n ≡ length c
     pub moved : (i : ℕ) → i < length c
-        → slice_index_or n i no_place ≡ next_of (slice_index (map (λ number. (type_at j number).mass) types) i) (slice_index_or p i no_place) (slice_index_or c i no_place) (sum_of_shares force (pairs_of (length c)) i)
+        → slice_index_or n i no_place ≡ next_of (slice_index (map (λ number. (type_at j number).mass) types) i)
+        (slice_index_or p i no_place) (slice_index_or c i no_place) (sum_of_shares force (pairs_of (length c)) i)
 
   -- k steps lead from the frames p and c to the frames p' and c': of k + 2 frames, p and c are the first two and p' and
   -- c' the last two, and each frame after the first two follows the two before it.
@@ -154,9 +157,11 @@ current s = map (λ atom. atom.current) s.atoms
 -- the frames exchanged.
 abbrev pub Leads : Direction → JobValue → Tree → List ℕ → ℕ → StateView → StateView → Type 0
 Leads Forward j tree types k before after =
-    Lead j tree before.sides types k (previous before) (current before) (previous after) (current after) × (after.step ≡ before.step +ℤ pos k)
+    Lead j tree before.sides types k (previous before) (current before) (previous after) (current after)
+    × (after.step ≡ before.step +ℤ pos k)
 Leads Back j tree types k before after =
-    Lead j tree before.sides types k (current before) (previous before) (current after) (previous after) × (after.step ≡ before.step -ℤ pos k)
+    Lead j tree before.sides types k (current before) (previous before) (current after) (previous after)
+    × (after.step ≡ before.step -ℤ pos k)
 
 -- The identity of an atom, whatever its position: the number and the name of its residue, and its own name.
 abbrev pub who : AtomView → ℤ × List ℕ × List ℕ

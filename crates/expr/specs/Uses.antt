@@ -66,7 +66,8 @@ resolved_in scope e = resolved (names_of scope.names.now) scope.first (defined_n
 -- the tree uses the scope's variables and definitions only
 abbrev pub IsInScope : {A : Type 0} → Scope A → Tree → Type 0
 IsInScope scope e =
-    IsTrue (is_scoped (variable_count scope.names.now.parameters scope.names.now.globals) scope.first (scope.first + length scope.later.now) e)
+    IsTrue (is_scoped (variable_count scope.names.now.parameters scope.names.now.globals) scope.first
+    (scope.first + length scope.later.now) e)
 
 -- the resolved trees of definitions, numbered from i; each sees the later ones
 unfoldable pub all_resolved : List (List ℕ) → ℕ → List Definition → Result (List Tree) Refusal

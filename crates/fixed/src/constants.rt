@@ -4,9 +4,9 @@ ghost use Rattle.fixed.specs.Constants.{exactly, negated};
 
 use crate::number::Fx;
 
-/// A number of a text as it was read: the nearest number, and bounds on its error. The error is the number that was read
-/// less the decimal of the text, in units of 2^-(bits + 8), 256 to a unit of the raw value. Between the bounds is at most
-/// one unit.
+/// A number of a text as it was read: the nearest number, and bounds on its error. The error is the number that was
+/// read less the decimal of the text, in units of 2^-(bits + 8), 256 to a unit of the raw value. Between the bounds is
+/// at most one unit.
 #[derive(Clone, Copy)]
 pub struct Constant {
     /// The number nearest to the decimal.

@@ -70,7 +70,8 @@ IsBoxFault n ended text _ = ⊥
 -- The bytes start with the lines of some atoms, fewer than k, the first on line n; then the line with the fault follows.
 abbrev pub HasBadAtom : (n k : ℕ) → List ℕ → GroFault → Type 0
 HasBadAtom n k bytes f =
-    (atoms : List AtomView) × (rest : List ℕ) × AreAtoms bytes atoms rest × (length atoms < k) × IsNeeded (IsAtomFault (n + length atoms)) rest f
+    (atoms : List AtomView) × (rest : List ℕ) × AreAtoms bytes atoms rest × (length atoms < k)
+    × IsNeeded (IsAtomFault (n + length atoms)) rest f
 
 -- The bytes start with a title, a number of atoms `count`, and the lines of some atoms; then the rest follows.
 pub record HasAtoms (bytes title : List ℕ) (count : ℕ) (atoms : List AtomView) (rest : List ℕ) : Type 0 where

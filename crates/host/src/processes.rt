@@ -36,13 +36,17 @@ pub fn execute_words<'a, R: Threads + Sync + AllocGlobal, F: Files, O: Out, E: O
     requires out { (O.output out.old).failed < 2 ^ 64 - 1 }
     requires err { (E.output err.old).failed < 2 ^ 64 - 1 }
     ensures most { result ≤ 5 }
-    ensures answers { IfOk words.entry (λ ws. IsAnswer (map string_bytes ws.items) (F.held files.old) (F.requested files.old) (F.requested files.new) (O.output out.old) (O.output out.new) (E.output err.old) (E.output err.new) result) }
+    ensures answers { IfOk words.entry (λ ws. IsAnswer (map string_bytes ws.items) (F.held files.old) (F.requested files.old)
+        (F.requested files.new) (O.output out.old) (O.output out.new) (E.output err.old) (E.output err.new) result) }
     ensures fails { IfOk words.entry (λ ws. result ≢ 0 → IsFailure (map string_bytes ws.items) (F.held files.old)
-        (F.requested files.old) (F.requested files.new) (O.output out.old) (O.output out.new) (E.output err.old) (E.output err.new) result) }
-    ensures undone { IfOk words.entry (λ ws. result ≢ 0 → (f : CommandFault Global) × IsFaultOf (map string_bytes ws.items) (F.held files.old) (F.requested files.old) (F.requested files.new) (O.output out.old) (O.output out.new) f
+        (F.requested files.old) (F.requested files.new) (O.output out.old) (O.output out.new)
+        (E.output err.old) (E.output err.new) result) }
+    ensures undone { IfOk words.entry (λ ws. result ≢ 0 → (f : CommandFault Global) × IsFaultOf (map string_bytes ws.items)
+        (F.held files.old) (F.requested files.old) (F.requested files.new) (O.output out.old) (O.output out.new) f
         × IsTold (map string_bytes ws.items) (F.held files.old) (O.output out.old) (O.output out.new) f result
         (E.output err.old) (E.output err.new)) }
-    ensures refused { IfErr words.entry (λ f. IsReported f result (Prints (E.output err.old) (E.output err.new)) × (O.output out.new ≡ O.output out.old)) }
+    ensures refused { IfErr words.entry (λ f. IsReported f result (Prints (E.output err.old) (E.output err.new))
+        × (O.output out.new ≡ O.output out.old)) }
 {
     match words {
         Ok(words) => execute(

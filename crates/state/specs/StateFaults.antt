@@ -51,8 +51,8 @@ state_format = at_line Version head_line (λ version. Unit {0}) title_format
 -- the next line, number n, has no LF, or it isn't the line of a value that fits
 pub data IsLineFault {X : Type 0} (line_of : X → List ℕ) (Fits : X → Type 0) (n : ℕ) (bytes : List ℕ) (f : StateFault) : Type 0 where
   no_end : lacks 10 bytes ≡ true → f ≡ Truncated → IsLineFault line_of Fits n bytes f
-  no_value : (text rest : List ℕ) → bytes ≡ ended text ++ rest → lacks 10 text ≡ true → ((x : X) → Fits x → text ≢ line_of x) → f ≡ BadLine n
-      → IsLineFault line_of Fits n bytes f
+  no_value : (text rest : List ℕ) → bytes ≡ ended text ++ rest → lacks 10 text ≡ true → ((x : X) → Fits x → text ≢ line_of x)
+      → f ≡ BadLine n → IsLineFault line_of Fits n bytes f
 
 -- f is the fault of bytes from line n on: that of the first faulty line, or bytes follow the last line
 unfoldable pub HasFault : Format → ℕ → List ℕ → StateFault → Type 0

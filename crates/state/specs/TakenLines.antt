@@ -82,7 +82,8 @@ IsCounted between more text after = HasCountLine between more text after ⊎ ((m
 
 -- the lines between the first one and the end of the line with the number of atoms were taken, and appended to `text`
 abbrev pub TakesCount : Version → (more : ℕ) → (before after : Left) → (text text' : List ℕ) → Type 0
-TakesCount version more before after text text' = Taken before after text text' (λ lines. IsCounted (count_number version - 2) more lines after)
+TakesCount version more before after text text' =
+    Taken before after text text' (λ lines. IsCounted (count_number version - 2) more lines after)
 
 -- a first line with a version, and the lines up to the number of atoms; `more` lines follow
 pub record HasHead (more : ℕ) (text : List ℕ) (after : Left) : Type 0 where

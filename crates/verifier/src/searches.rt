@@ -183,7 +183,8 @@ impl<'a, A: Allocator + Copy, B: Allocator> Search<'a, A, B> {
         requires core { pos 0 ≤ℤ self.now.core }
         requires range { self.now.core <ℤ self.now.cutoff }
         requires slice { slice < self.now.slices }
-        ensures { UnlessMemory (IsSliceAnswer self.now.code.now self.now.table.now (range_of self.now) pair.first pair.second slice) result }
+        ensures { UnlessMemory (IsSliceAnswer self.now.code.now self.now.table.now (range_of self.now) pair.first pair.second slice)
+            result }
     {
         let width = width_of(self.core, self.cutoff);
         let from = share(width, slice, self.slices);
