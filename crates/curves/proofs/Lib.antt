@@ -1,9 +1,4 @@
-pub mod EntryLaws
-pub mod NodeLaws
-pub mod RowLaws
 pub mod SliceLaws
-pub mod StackLaws
-pub mod FormulaLaws
 pub mod PartLaws
 pub mod HalvingLaws
 pub mod TableLaws

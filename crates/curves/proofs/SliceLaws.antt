@@ -19,8 +19,8 @@ use Rattle.fixed.specs.declared.constants.Constant.{Constant}
 use Rattle.error_bounds.proofs.Between.{wider}
 use Rattle.error_bounds.proofs.JumpLaws.{distance_agrees, read_agrees}
 use Rattle.curves.specs.Slices.{AreBoundsOver, AreRight, AreRightOfDerivatives, BoundsView, IsBound, Part, WereRead, bound_of, bounds_on, is_worse, part_on}
-use Rattle.curves.specs.Written.{AreApproximated}
-use Rattle.curves.proofs.EntryLaws.{program_is_right}
+use Rattle.formula_bounds.specs.Written.{AreApproximated}
+use Rattle.formula_bounds.proofs.EntryLaws.{program_is_right}
 use Rattle.curves.proofs.HalvingLaws.{part_with}
 
 module _ {V : Type 0} (k : Numbers V) (h : AreOrdered k) (bits : ℕ) where

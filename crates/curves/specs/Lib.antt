@@ -1,6 +1,3 @@
-pub mod Entries
-pub mod Written
-pub mod Nodes
 pub mod Slices
 pub mod Tables
 pub mod SoFar

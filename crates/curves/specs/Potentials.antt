@@ -5,7 +5,7 @@ use Rattle.job.specs.Values.{JobValue}
 use Rattle.potential.specs.Energies.{job_program}
 use Rattle.potential.specs.EnergyKernels.{GivesEnergy, IsEnergyKernel}
 use Rattle.potential.specs.Verdicts.{IsSlopeKernel, IsUnder}
-use Rattle.curves.specs.Nodes.{formula_of}
+use Rattle.formula_bounds.specs.Nodes.{formula_of}
 use Rattle.curves.specs.declared.potentials.Potential.{Potential}
 
 -- The potential is the job's: the code of its slope and of its energy are accepted, and the formula is that of its

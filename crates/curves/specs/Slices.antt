@@ -14,8 +14,8 @@ use Rattle.error_bounds.specs.Ordered.{IsBetween}
 use Rattle.interval_domain.specs.Ranges.{IsIn, Range, range}
 use Rattle.error_bounds.specs.Rules.{as_read, distances}
 use Rattle.potential.specs.Tables.{numbers_of}
-use Rattle.curves.specs.Entries.{Entry, entry_of_program}
-use Rattle.curves.specs.Written.{IsWritten}
+use Rattle.formula_bounds.specs.Entries.{Entry, entry_of_program}
+use Rattle.formula_bounds.specs.Written.{IsWritten}
 use Rattle.curves.specs.declared.slices.Column.{Column}
 use Rattle.curves.specs.declared.slices.Column.TheVariants.{Energy, Slope}
 

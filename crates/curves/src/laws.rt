@@ -14,10 +14,10 @@ ghost use Rattle.error_bounds.specs.Approximations.{Approximation};
 ghost use Rattle.error_bounds.specs.Ordered.{AreOrdered};
 ghost use Rattle.interval_domain.specs.Ranges.{Range};
 ghost use Rattle.curve_lines.specs.declared.rows.Row.{Row};
-ghost use Rattle.curves.specs.Entries.{entry_of_program};
+ghost use Rattle.formula_bounds.specs.Entries.{entry_of_program};
 ghost use Rattle.curves.specs.Slices.{AreBoundsOver, AreRight, AreRightOfDerivatives, BoundsView};
 ghost use Rattle.curves.specs.Tables.{IsRow, bounds_in, distances_of, others_of};
-ghost use Rattle.curves.specs.Written.{AreApproximated, IsRight};
+ghost use Rattle.formula_bounds.specs.Written.{AreApproximated, IsRight};
 
 /// Error bounds of a potential hold over every ordered field with roots, such as the real numbers.
 ///

@@ -1,12 +1,8 @@
 //! Potentials as they are computed, with certified bounds on their distance from the formula over exact numbers.
 #![tactic(auto)]
 
-mod entries;
-mod formulas;
 mod laws;
-mod nodes;
 mod pairs;
-mod partial;
 mod plans;
 mod potentials;
 mod rows;

@@ -17,9 +17,9 @@ ghost use Rattle.curves.specs.Potentials.{IsPotentialOf};
 ghost use Rattle.curves.specs.Progress.{IsStoppedAfter};
 ghost use Rattle.curves.specs.Tables.{HasNoCurve};
 
-use crate::formulas::Formula;
 use fallible::Failure;
 use fixed::Fx;
+use formula_bounds::Formula;
 use job::Job;
 use kernel_lanes::Query;
 use kernel_machine::Stack;

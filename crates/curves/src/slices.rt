@@ -6,15 +6,14 @@ ghost use Rattle.fixed.specs.Fractions.{bits_of};
 ghost use Rattle.energy_program.specs.Programs.{Trees};
 ghost use Rattle.error_bounds.specs.Rules.{as_read, distances};
 ghost use Rattle.interval_domain.specs.Views.{span_range};
-ghost use Rattle.curves.specs.Nodes.{formula_of};
+ghost use Rattle.formula_bounds.specs.Nodes.{formula_of};
 ghost use Rattle.curves.specs.Slices as slices;
 ghost use Rattle.curves.specs.Slices.{AreBoundsOver, IsGreatest, IsNext, IsToHalve, IsWorst, at_ends, bounds_at, bounds_on, halved_at, in_column, middle, part_on};
 ghost use Rattle.curves.specs.declared.slices.Column.TheVariants as column;
 
-use crate::formulas::Formula;
-use crate::partial::Partial;
 use error_bounds::Approximation;
 use fixed::{Constant, Frac};
+use formula_bounds::{Formula, Partial};
 use interval_domain::{Span, halves};
 use std::alloc::{AllocError, Allocator};
 use std::marker::Model;

@@ -1,6 +1,6 @@
 use Rattle.fixed.specs.Fractions.{bits_of}
 use Rattle.curves.specs.Tables.{bounds_in, distances_of, others_of}
-use Rattle.curves.proofs.EntryLaws.{program_is_right}
+use Rattle.formula_bounds.proofs.EntryLaws.{program_is_right}
 use Rattle.curves.proofs.HalvingLaws.{bounds_once}
 use Rattle.curves.proofs.SliceLaws.{bounds_are_right, derivatives_are_right}
 use Rattle.curves.proofs.TableLaws.{inputs_are}

@@ -2,7 +2,7 @@ use Rattle.std.proofs.Common.{◌≡◌, ◌<◌, length}
 use Rattle.energy_program.specs.Programs.{Trees}
 use Rattle.fixed.specs.Fractions.{bits_of}
 use Rattle.interval_domain.specs.Views.{span_range}
-use Rattle.curves.specs.Nodes.{formula_of}
+use Rattle.formula_bounds.specs.Nodes.{formula_of}
 use Rattle.curves.specs.Slices.{AreHalved}
 use Rattle.curves.proofs.slices.bounds_over.Given as goal
 

@@ -1,8 +1,0 @@
-use Rattle.std.proofs.Common.{◌≡◌, map, take}
-use Rattle.energy_program.specs.Tree.{tree_of}
-use Rattle.curves.specs.Nodes.{items_of, nodes_of}
-use Rattle.curves.proofs.formulas.all_nodes_of.Given as goal
-
--- the definitions so far have their nodes
-abbrev pub invariant-loop-definition : goal.invariant-loop-definition
-invariant-loop-definition g l = items_of l.all.items ≡ map nodes_of (map tree_of (take l.definition-index l.definitions))

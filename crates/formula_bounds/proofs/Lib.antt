@@ -1,0 +1,5 @@
+pub mod EntryLaws
+pub mod NodeLaws
+pub mod RowLaws
+pub mod StackLaws
+pub mod FormulaLaws

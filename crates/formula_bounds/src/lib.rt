@@ -1,0 +1,14 @@
+//! Approximations of a formula's value and of its slope over a range of distances.
+//!
+//! A walk approximates the nodes of a formula from inner parts to outer ones, and each definition once.
+//! `specs/Written.antt` defines what approximations mean, over every ordered field with roots.
+#![tactic(auto)]
+
+mod entries;
+mod formulas;
+mod nodes;
+mod partial;
+
+pub use entries::Entry;
+pub use formulas::Formula;
+pub use partial::Partial;

@@ -1,0 +1,73 @@
+//! Trees as lists of nodes, which a loop walks: a tree may be so deep that a recursion on its values overflows the stack.
+
+ghost use Rattle.std.specs.Prelude.{◌≡◌, ◌++◌, IfOk, map};
+ghost use Rattle.energy_program.specs.Tree.{tree_of};
+ghost use Rattle.formula_bounds.specs.Nodes.{nodes_of};
+
+use energy_program::Expr;
+use fixed::{Constant, Function, Operator};
+use std::alloc::{AllocError, Allocator};
+
+/// A node of a tree, without its parts.
+#[derive(Clone, Copy)]
+pub(crate) enum Node {
+    /// A constant.
+    Number(Constant),
+    /// The variable with this input number.
+    Input(u32),
+    /// The definition with this number.
+    Definition(u32),
+    /// The negative of a part.
+    Negated,
+    /// An operation on two parts.
+    Binary(Operator),
+    /// A function of a part.
+    Applied(Function),
+    /// A part raised to an exponent.
+    Power(i8),
+    /// A choice between two parts by a third.
+    Select,
+}
+
+/// Appends the nodes of a tree: each node before its parts, and the last part first. The last call visits the part in
+/// which long sums and products nest, so they need no stack frame there.
+pub(crate) fn append_nodes<A: Allocator + Copy>(
+    nodes: &mut Vec<Node, A>,
+    tree: &Expr<A>,
+) -> Result<(), AllocError>
+    ensures { IfOk result (λ _. nodes.new.items ≡ nodes.old.items ++ nodes_of (tree_of tree.now)) }
+{
+    match tree {
+        Expr::Number(value, low, high) => nodes.push(Node::Number(Constant {
+            value: *value,
+            low: *low,
+            high: *high,
+        }))?,
+        Expr::Input(number) => nodes.push(Node::Input(*number))?,
+        Expr::Definition(number) => nodes.push(Node::Definition(*number))?,
+        Expr::Negated(part) => {
+            nodes.push(Node::Negated)?;
+            append_nodes(nodes, part)?;
+        }
+        Expr::Binary(operator, left, right) => {
+            nodes.push(Node::Binary(*operator))?;
+            append_nodes(nodes, right)?;
+            append_nodes(nodes, left)?;
+        }
+        Expr::Applied(function, part) => {
+            nodes.push(Node::Applied(*function))?;
+            append_nodes(nodes, part)?;
+        }
+        Expr::Power(part, exponent) => {
+            nodes.push(Node::Power(*exponent))?;
+            append_nodes(nodes, part)?;
+        }
+        Expr::Select(condition, chosen, otherwise) => {
+            nodes.push(Node::Select)?;
+            append_nodes(nodes, otherwise)?;
+            append_nodes(nodes, chosen)?;
+            append_nodes(nodes, condition)?;
+        }
+    }
+    Ok(())
+}
