@@ -3,17 +3,19 @@
 An approximation or a bound that is missing is None. Trees and fixed-point operations are those of the second reading.
 """
 from math import isqrt
-from typing import NamedTuple, Optional
+from typing import Callable, NamedTuple, Optional
 
 import arithmetic
 from arithmetic import Fault
 from operations import FlatFunction, Function, Operator, function_value, operator_value
-from trees import Applied, Binary, Input, Negated, Number, Power, is_free_of_distance, parts_of
+from trees import Applied, Binary, Input, Negated, Number, Power, Select, is_free_of_distance, parts_of
 
 FINER = 256  # error units in a unit of 2^-bits
 MOST_ERROR = 2**62
 MOST_PRODUCT = 2**116
 MOST_HALVINGS = 256
+MOST_DISTANCES = 16  # of a part whose walk is divided at undecided choices
+MOST_DIVISIONS = 3  # of a walk
 ENERGY, SLOPE = 0, 1
 
 
@@ -134,11 +136,20 @@ def apart(computed, exact):
 # ---- choices
 
 
+def is_not_zero(x):
+    return not has_zero(x.computed) and not has_zero(x.exact())
+
+
+def is_undecided(x):
+    """A choice with this condition needs both of its branches."""
+    return x is not None and not is_not_zero(x) and x != exactly(0)
+
+
 def selected(x, y, z):
     """The approximation of select(x, y, z)."""
     if x is None:
         return None
-    if not has_zero(x.computed) and not has_zero(x.exact()):
+    if is_not_zero(x):
         return y
     if x == exactly(0):
         return z
@@ -311,9 +322,12 @@ class Slopes(Operations):
             return self.slope_of_product(free_u, free_v, u, v, du, dv)
         if operator is Operator.Divide:
             return self.slope_of_quotient(free_u, free_v, u, v, du, dv)
+        return selected(self.condition_of_two(operator, u, v), du, dv)
+
+    def condition_of_two(self, operator, u, v):
+        """The condition of a minimum or a maximum: not 0 if u is the result, 0 if v is."""
         first, second = (v, u) if operator is Operator.Minimum else (u, v)
-        step = self.applied(FlatFunction.Step, self.on_two(Operator.Subtract, first, second))
-        return selected(step, du, dv)
+        return self.applied(FlatFunction.Step, self.on_two(Operator.Subtract, first, second))
 
     def slope_of_function(self, function, u, du):
         if function is Function.SquareRoot:
@@ -340,21 +354,47 @@ class Part(NamedTuple):
     slope: Optional[Approximation]
 
 
-class Formula:
-    """The parts of an energy in a list, each after its own parts; a definition is one part, wherever it is used."""
+class Step(NamedTuple):
+    """How a part is approximated: the numbers of its own parts, and functions of them. The choice gives the condition and
+    both branches; it is None if the part is no choice, or is free of the distance.
+    """
 
-    def __init__(self, bits, tree):
+    numbers: list
+    value: Callable
+    slope: Callable
+    choice: Optional[Callable]
+
+
+class Walk:
+    """The parts that were approximated, and at how many choices the walk may still divide."""
+
+    def __init__(self, known, left):
+        self.known, self.left = known, left
+
+    def with_branch(self, part):
+        """The walk that goes on with this branch of a choice."""
+        return Walk([*self.known, part], self.left - 1)
+
+
+class Formula:
+    """The parts of an energy in the order in which they are approximated: the definitions from the last to the first, then
+    the formula. A definition is one part, wherever it is used. The trees of the definitions are those in the formula's.
+    """
+
+    def __init__(self, bits, tree, definitions):
         self.on = Slopes(bits)
         self.numbers = {}  # of parts, by the identities of their trees
-        self.steps = []  # for each part, the numbers of its own parts, and its value and its slope as functions of them
-        self.tree = tree
-        self.append(tree)
+        self.steps = []
+        for it in reversed(definitions):
+            self.append(it)
+        self.whole = self.append(tree)
+        self.trees = (tree, definitions)  # keeps the identities
 
     def append(self, tree):
         """Appends a part, after its own parts. The result is its number."""
         if id(tree) not in self.numbers:
             parts = [self.append(part) for part in parts_of(tree)]
-            self.steps.append((parts, self.value_of(tree), self.slope_of(tree)))
+            self.steps.append(Step(parts, self.value_of(tree), self.slope_of(tree), self.choice_of(tree)))
             self.numbers[id(tree)] = len(self.steps) - 1
         return self.numbers[id(tree)]
 
@@ -393,13 +433,66 @@ class Formula:
             return lambda u: on.slope_of_power(u.value, tree.exponent, u.slope)
         return lambda x, u, v: selected(x.value, u.slope, v.slope)
 
+    def choice_of(self, tree):
+        """The condition and the branches of a choice, as a function of its parts."""
+        on = self.on
+        if is_free_of_distance(tree):
+            return None
+        if isinstance(tree, Select):
+            return lambda x, u, v: (x.value, u, v)
+        if isinstance(tree, Binary) and tree.operator in (Operator.Minimum, Operator.Maximum):
+            return lambda u, v: (on.condition_of_two(tree.operator, u.value, v.value), u, v)
+        if isinstance(tree, Applied) and tree.function is Function.Absolute:
+            return lambda u: (
+                None if on.applied(tree.function, u.value) is None else on.applied(FlatFunction.Step, u.value),
+                u,
+                Part(on.negative(u.value), on.negative(u.slope)),
+            )
+        return None
+
+    def after(self, step, walk, inputs):
+        """The walks after a step of a walk: two, if it divides."""
+        parts = [walk.known[number] for number in step.numbers]
+        if step.choice is not None and walk.left > 0:
+            condition, *branches = step.choice(*parts)
+            if is_undecided(condition):
+                return [walk.with_branch(branch) for branch in branches]
+        walk.known.append(Part(step.value(inputs, *parts), step.slope(*parts)))
+        return [walk]
+
+    def approximations(self, inputs, divisions):
+        """The approximations of the formula: one for each walk, each of which divides at most so often."""
+        walks = [Walk([], divisions)]
+        for step in self.steps:
+            walks = [after for walk in walks for after in self.after(step, walk, inputs)]
+        return [walk.known[self.whole] for walk in walks]
+
     def bounds(self, others, r):
         """The bounds of a range of distances, of the energy and of the slope. `others` approximates the other inputs."""
-        inputs, known = [distances(r), *others], []
-        for numbers, value, slope in self.steps:
-            parts = [known[number] for number in numbers]
-            known.append(Part(value(inputs, *parts), slope(*parts)))
-        return [None if it is None else magnitude(it.error) for it in known[-1]]
+        inputs = [distances(r), *others]
+        [plain] = self.approximations(inputs, 0)
+        found = [None if it is None else magnitude(it.error) for it in plain]
+        if r.high - r.low >= MOST_DISTANCES:
+            return found
+        divided = self.approximations(inputs, MOST_DIVISIONS)
+        if len(divided) == 1:
+            return found
+        return [lesser(bound, joined_bound([part[quantity] for part in divided])) for quantity, bound in enumerate(found)]
+
+
+def joined_bound(approximations):
+    """The bound, if each of these numbers may be computed for each of these exact numbers."""
+    if None in approximations:
+        return None
+    computed = around(*(end for it in approximations for end in it.computed))
+    exact = around(*(end for it in approximations for end in it.exact()))
+    bound = magnitude(apart(computed, exact))
+    return bound if bound <= MOST_ERROR else None
+
+
+def lesser(x, y):
+    """The lesser of two bounds, or the one that isn't missing."""
+    return x if y is None else y if x is None else min(x, y)
 
 
 # ---- rows

@@ -12,7 +12,7 @@ import sys
 from arithmetic import bits_of, nearest_of
 from bounds import ENERGY, FINER, SLOPE, Formula, Range, as_read, row_bounds, up_over
 from read import bytes_of, with_deep_stack
-from run_specification import NoText, job_says
+from run_specification import NoText, program_says
 from slope import slope_of
 from value import value_of
 
@@ -139,8 +139,8 @@ def texts_of_both(first, second, columns):
 
 def curve(text, points=100, columns=(ENERGY, SLOPE), names=None):
     """The text that `pairmd curve` prints for a job's text."""
-    job, tree = job_says(text)
-    formula = Formula(bits_of(job.frac), tree)
+    job, tree, definitions = program_says(text)
+    formula = Formula(bits_of(job.frac), tree, definitions)
     named = {it.name: it for it in job.types}
 
     def table(first, second):

@@ -46,7 +46,8 @@ def resolved(variables, first, later, syntax):
 
 def meaning_of(variables, body, definitions):
     """expr/specs/Uses: source_meaning, substituted_tree, trees and all_resolved, the tree of a text with its definitions
-    substituted, or None. The body may use all definitions, and each definition the later ones.
+    substituted, and the trees of the definitions; or None. The body may use all definitions, and each definition the
+    later ones.
     """
     names = [name for name, _ in definitions]
     trees = [resolved(variables, 0, names, body)]
@@ -67,14 +68,14 @@ def all_programs(bits, text, most):
     return [(body, definitions) for body, definitions in found if len(definitions) <= 64]
 
 
-def all_energies(bits, variables, text, most):
-    """expr/specs/Energy: IsEnergy, every tree of the text with these variables. At most `most` parentheses and minus
-    signs are open around a token.
+def all_meanings(bits, variables, text, most):
+    """expr/specs/Energy: IsEnergy, every tree of the text with these variables, with the trees of its definitions. At most
+    `most` parentheses and minus signs are open around a token.
     """
     found = []
     for body, definitions in all_programs(bits, text, most):
         if are_new(variables, [name for name, _ in definitions]):
-            tree = meaning_of(variables, body, definitions)
-            if tree is not None:
-                found.append(tree)
+            meaning = meaning_of(variables, body, definitions)
+            if meaning is not None:
+                found.append(meaning)
     return found

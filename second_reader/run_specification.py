@@ -2,7 +2,7 @@
 from dataclasses import replace
 
 from arithmetic import bits_of
-from energy import all_energies
+from energy import all_meanings
 from job import LIMITS, all_jobs
 from library import all_apart
 from names import is_reserved, parameters_and_globals, variables_of
@@ -52,15 +52,16 @@ def global_names(j):
 
 
 def energy_of(j):
-    """engine/specs/RunSpecification: IsJobEnergy, the tree of a job's energy, with at most 64 open parentheses and minus signs.
-    No two of its variables have the same name (job/specs/JobText: AreApart), and only the distance has a reserved one.
+    """engine/specs/RunSpecification: IsJobEnergy, the tree of a job's energy, with at most 64 open parentheses and minus signs,
+    and the trees of its definitions. No two of its variables have the same name (job/specs/JobText: AreApart), and only
+    the distance has a reserved one.
     """
     variables = variables_of(j.parameters, global_names(j))
     if not all_apart(variables):
         raise NoText("energy")
     if any(is_reserved(name) for name in parameters_and_globals(j.parameters, global_names(j))):
         raise NoText("energy")
-    return the_only(all_energies(bits_of(j.frac), variables, j.energy, 64), "energy")
+    return the_only(all_meanings(bits_of(j.frac), variables, j.energy, 64), "energy")
 
 
 def types_of(j, atoms):
@@ -181,12 +182,18 @@ def leads(direction, rule, n, s):
     return replace(s, step=step, atoms=[replace(atom, previous=p, current=c) for atom, p, c in moved])
 
 
-def job_says(job):
-    """The job of a text, and the tree of its energy: the fields `job_text` and `energy` of engine/specs/RunSpecification:
-    IsLevesqueVerletRun.
+def program_says(job):
+    """The job of a text, the tree of its energy, and the trees of the definitions: the fields `job_text` and `energy` of
+    engine/specs/RunSpecification: IsLevesqueVerletRun.
     """
     j = the_only(all_jobs(LIMITS, job), "job_text")
-    return j, energy_of(j)
+    return (j, *energy_of(j))
+
+
+def job_says(job):
+    """The job of a text, and the tree of its energy."""
+    j, tree, _ = program_says(job)
+    return j, tree
 
 
 def texts_say(job, state):

@@ -134,15 +134,15 @@ def put(meaning_of):
 
 
 def substituted(body, definitions):
-    """energy_program/specs/Tree: substituted and meaning, the body with each defined name replaced by its meaning. The
-    meaning of a definition is its tree with the meanings of the later ones, so the last comes first here. A number of
-    no later definition means 0.
+    """energy_program/specs/Tree: substituted and meaning, the body with each defined name replaced by its meaning, and the
+    meanings of the definitions. The meaning of a definition is its tree with the meanings of the later ones, so the last
+    comes first here. A number of no later definition means 0.
     """
     meanings = {}
     for number in reversed(range(len(definitions))):
         later = dict(meanings)
         meanings[number] = put(lambda k: later.get(k, Number(exactly(0))))(definitions[number])
-    return put(lambda k: meanings.get(k, Number(exactly(0))))(body)
+    return put(lambda k: meanings.get(k, Number(exactly(0))))(body), [meanings[it] for it in range(len(definitions))]
 
 
 @remembered

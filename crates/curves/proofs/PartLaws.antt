@@ -52,12 +52,6 @@ read_at [] i x e l = absurd (omega (arith, l))
 read_at (y ∷ ys) zero x e l = ap Some (sym e)
 read_at (y ∷ ys) (suc i) x e l = read_at ys i x e (omega (arith, l))
 
--- so is what it reads of a vector
-pub read_index : {A : Type 0} (xs : List A) (i : ℕ) (x : A) → x ≡ slice_index_or xs i x → i < length xs → slice_get xs i ≡ Some x
-read_index [] i x e l = absurd (omega (arith, l))
-read_index (y ∷ ys) zero x e l = ap Some (sym e)
-read_index (y ∷ ys) (suc i) x e l = read_index ys i x e (omega (arith, l))
-
 -- some parts have a first one
 pub first_there : (parts : List Part) → 0 < length parts → (p : Part) × (slice_get parts 0 ≡ Some p)
 first_there [] l = absurd (omega (arith, l))

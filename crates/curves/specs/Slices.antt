@@ -1,7 +1,7 @@
 -- Bounds on the errors of an energy and of its slope over a range of distances.
-use Rattle.std.specs.Prelude.{◌≡◌, ◌⊎◌, ◌<◌, ◌/◌, ◌%◌, ◌==◌, ℕ, suc, nat_le, nat_lt, max, ℤ, pos, ◌+ℤ◌, ◌-ℤ◌, ◌*ℤ◌, unsigned_abs, Bool, true, false, ◌||◌, if◌then◌else◌, List, [], ◌∷◌, ◌++◌, take, drop, map, slice_get, Option, Some, None, IfSome}
+use Rattle.std.specs.Prelude.{◌≡◌, ◌⊎◌, ◌<◌, ◌/◌, ◌%◌, ◌==◌, ℕ, suc, nat_le, nat_lt, int_le, max, min, ℤ, pos, ◌+ℤ◌, ◌-ℤ◌, ◌*ℤ◌, unsigned_abs, Bool, true, false, ◌||◌, if◌then◌else◌, List, [], ◌∷◌, ◌++◌, take, drop, map, slice_get, Option, Some, None, IfSome}
 use Rattle.energy_program.specs.Programs.{Trees}
-use Rattle.energy_program.specs.Tree.{Tree, substituted}
+use Rattle.energy_program.specs.Tree.{substituted}
 use Rattle.energy_program.specs.Value.{value_of}
 use Rattle.derivative.specs.DualNumbers.{IsNear}
 use Rattle.derivative.specs.Exact.{Numbers, exact_slope, exact_value}
@@ -15,7 +15,8 @@ use Rattle.interval_domain.specs.Ranges.{IsIn, Range, range}
 use Rattle.error_bounds.specs.Rules.{as_read, distances}
 use Rattle.potential.specs.Tables.{numbers_of}
 use Rattle.formula_bounds.specs.Entries.{Entry, entry_of_program}
-use Rattle.formula_bounds.specs.Written.{IsWritten}
+use Rattle.formula_bounds.specs.Walks.{approximation_of_all, entries_of_program}
+use Rattle.formula_bounds.specs.Written.{IsWrittenProgram}
 use Rattle.curves.specs.declared.slices.Column.{Column}
 use Rattle.curves.specs.declared.slices.Column.TheVariants.{Energy, Slope}
 
@@ -53,12 +54,58 @@ is_worse (Some x) (Some y) = nat_lt y x
 is_worse None (Some y) = true
 is_worse _ None = false
 
--- The bounds of one walk over the program: the distances are in this range, and the other inputs were read as these
--- constants.
+-- the lesser of two bounds, or the one that is found
+abbrev pub lesser_bound : (x y : Option ℕ) → Option ℕ
+lesser_bound (Some x) (Some y) = Some (min x y)
+lesser_bound (Some x) None = Some x
+lesser_bound None y = y
+
+-- ---- walks
+
+-- the inputs: the distances are in this range, and the others were read as these constants
+abbrev pub inputs_on : (others : List Constant) → Range → List Approximation
+inputs_on others r = distances r ∷ map as_read others
+
+abbrev pub bounds_of : Entry → BoundsView
+bounds_of e = bounds_view (bound_of e.value) (bound_of e.slope)
+
+-- the bounds of one walk over the program
+abbrev pub plain_bounds : (bits : ℕ) → Trees → (inputs : List Approximation) → BoundsView
+plain_bounds bits program inputs = bounds_of (entry_of_program bits inputs program)
+
+-- the approximation of a column in an entry
+abbrev pub in_entry : Column → Entry → Option Approximation
+in_entry Energy e = e.value
+in_entry Slope e = e.slope
+
+-- the bound, if any of these approximations may be right for the computed value, and any for the exact one
+abbrev pub bound_of_all : List (Option Approximation) → Option ℕ
+bound_of_all ps = bound_of (approximation_of_all ps)
+
+-- The lesser of the plain bounds and those of walks with these entries, if there are two or more. A walk that didn't divide
+-- has the plain bounds.
+abbrev pub least_bounds : (plain : BoundsView) → List Entry → BoundsView
+least_bounds plain [] = plain
+least_bounds plain (e ∷ []) = plain
+least_bounds plain (e ∷ es) =
+    bounds_view
+    (lesser_bound plain.energy (bound_of_all (map (in_entry Energy) (e ∷ es))))
+    (lesser_bound plain.slope (bound_of_all (map (in_entry Slope) (e ∷ es))))
+
+-- the range has more than 16 distances
+abbrev pub is_wide : Range → Bool
+is_wide r = int_le (pos 16) (r.high -ℤ r.low)
+
+-- The bounds on these inputs: of a walk over the program, or if the range isn't wide, the lesser of these and those of walks
+-- that divide at up to three choices.
+abbrev pub bounds_by : (bits : ℕ) → Trees → (inputs : List Approximation) → (wide : Bool) → BoundsView
+bounds_by bits program inputs wide =
+    if wide then plain_bounds bits program inputs
+    else least_bounds (plain_bounds bits program inputs) (entries_of_program bits inputs program 3)
+
+-- the bounds on a range of distances
 abbrev pub bounds_on : (bits : ℕ) → Trees → (others : List Constant) → Range → BoundsView
-bounds_on bits program others r =
-    let e : Entry = entry_of_program bits (distances r ∷ map as_read others) program in
-    bounds_view (bound_of e.value) (bound_of e.slope)
+bounds_on bits program others r = bounds_by bits program (inputs_on others r) (is_wide r)
 
 -- ---- halving
 
@@ -168,19 +215,23 @@ module _ {V : Type 0} (k : Numbers V) (bits : ℕ) where
       (i : ℕ) (c : Constant) → slice_get constants i ≡ Some c → (x : V) → slice_get exacts i ≡ Some x → WasRead k bits c x
 
   -- The bounds are right for the program at each distance in the range: for the energy and the slope that are computed
-  -- there, and for the energy as it was written, and its derivative, at the exact distance.
+  -- there, and for the energy as it was written, and its derivative, at the exact distance. The numbers of a definition are
+  -- the same wherever it is used.
   pub record AreRight (program : Trees) (others : List Constant) (r : Range) (b : BoundsView) : Type 0 where
-    pub energy : (z : ℤ) (d : V) (xs : List V) (written : Tree) → IsIn z r → WasRoundedDown k bits z d → WereRead others xs
-        → IsWritten k bits (d ∷ xs) (substituted program.0 program.1) written
-        → IsBound b.energy (value_of bits (z ∷ numbers_of others) (substituted program.0 program.1)) (exact_value k (d ∷ xs) written)
-    pub slope : (z : ℤ) (d : V) (xs : List V) (written : Tree) → IsIn z r → WasRoundedDown k bits z d → WereRead others xs
-        → IsWritten k bits (d ∷ xs) (substituted program.0 program.1) written
-        → IsBound b.slope (slope_of bits (z ∷ numbers_of others) (substituted program.0 program.1)) (exact_slope k (d ∷ xs) written)
+    pub energy : (z : ℤ) (d : V) (xs : List V) (written : Trees) → IsIn z r → WasRoundedDown k bits z d → WereRead others xs
+        → IsWrittenProgram k bits (d ∷ xs) program written
+        → IsBound b.energy (value_of bits (z ∷ numbers_of others) (substituted program.0 program.1))
+        (exact_value k (d ∷ xs) (substituted written.0 written.1))
+    pub slope : (z : ℤ) (d : V) (xs : List V) (written : Trees) → IsIn z r → WasRoundedDown k bits z d → WereRead others xs
+        → IsWrittenProgram k bits (d ∷ xs) program written
+        → IsBound b.slope (slope_of bits (z ∷ numbers_of others) (substituted program.0 program.1))
+        (exact_slope k (d ∷ xs) (substituted written.0 written.1))
 
   -- The bound of the slope is right for the derivative: if the formula as it was written is v + s e at the distance
   -- d + e, in dual numbers, the computed slope differs from s by at most the bound.
   abbrev pub AreRightOfDerivatives : (program : Trees) (others : List Constant) → Range → BoundsView → Type 0
   AreRightOfDerivatives program others r b =
-      (z : ℤ) (d : V) (xs : List V) (written : Tree) → IsIn z r → WasRoundedDown k bits z d → WereRead others xs
-      → IsWritten k bits (d ∷ xs) (substituted program.0 program.1) written → (v s : V) → IsNear k (d ∷ xs) written (v, s)
+      (z : ℤ) (d : V) (xs : List V) (written : Trees) → IsIn z r → WasRoundedDown k bits z d → WereRead others xs
+      → IsWrittenProgram k bits (d ∷ xs) program written → (v s : V)
+      → IsNear k (d ∷ xs) (substituted written.0 written.1) (v, s)
       → IsBound b.slope (slope_of bits (z ∷ numbers_of others) (substituted program.0 program.1)) (Some s)

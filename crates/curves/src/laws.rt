@@ -17,14 +17,14 @@ ghost use Rattle.curve_lines.specs.declared.rows.Row.{Row};
 ghost use Rattle.formula_bounds.specs.Entries.{entry_of_program};
 ghost use Rattle.curves.specs.Slices.{AreBoundsOver, AreRight, AreRightOfDerivatives, BoundsView};
 ghost use Rattle.curves.specs.Tables.{IsRow, bounds_in, distances_of, others_of};
-ghost use Rattle.formula_bounds.specs.Written.{AreApproximated, IsRight};
+ghost use Rattle.formula_bounds.specs.Written.{AreApproximated, HaveNumbers, IsRight, IsWrittenProgram, numerals_of_program, program_with_inputs};
 
 /// Error bounds of a potential hold over every ordered field with roots, such as the real numbers.
 ///
 /// The exact formula has constants, parameters and globals that are any numbers within the errors of reading, among them
-/// the decimals of the job's text, and a distance from the computed one to the next. If there is a bound, the energy, or
-/// its slope, is computed without a fault, and differs from the exact value, or from the exact derivative, by at most the
-/// bound, if there is one.
+/// the decimals of the job's text, and a distance from the computed one to the next. A constant of a definition has the
+/// same number wherever the definition is used. If there is a bound, the energy, or its slope, is computed without a
+/// fault, and differs from the exact value, or from the exact derivative, by at most the bound, if there is one.
 pub fn errors_are_bounded<V>()
     // The approximations of a program are right for its value and for its slope.
     ensures entry { (k : Numbers V) → AreOrdered k → (bits : ℕ) (inputs : List ℤ) (exacts : List V)
@@ -34,6 +34,11 @@ pub fn errors_are_bounded<V>()
     ensures bounds { (k : Numbers V) → AreOrdered k → (bits count : ℕ) (program : Trees) → IsScoped count program
         → (others : List Constant) (r : Range) (b : BoundsView) → AreBoundsOver bits program others r b
         → AreRight k bits program others r b }
+    // For any exact numbers that may have been read as the constants of a program there is such a written program: each
+    // constant, of the body or of a definition, has one number.
+    ensures written { (k : Numbers V) → (bits : ℕ) (exacts : List V) (n : ℕ) (program : Trees)
+        → HaveNumbers k bits exacts n (numerals_of_program program)
+        → IsWrittenProgram k bits exacts program (program_with_inputs n program) }
     // Bounds over a range of distances are unique.
     ensures exact { (bits : ℕ) (program : Trees) (others : List Constant) (r : Range) (b c : BoundsView)
         → AreBoundsOver bits program others r b → AreBoundsOver bits program others r c → b ≡ c }

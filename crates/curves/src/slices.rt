@@ -4,22 +4,25 @@ ghost use Rattle.std.specs.Prelude.{◌≡◌, ◌∷◌, ◌++◌, ◌<◌, ◌
 ghost use Rattle.fixed.specs.Arithmetic.{is_zero};
 ghost use Rattle.fixed.specs.Fractions.{bits_of};
 ghost use Rattle.energy_program.specs.Programs.{Trees};
-ghost use Rattle.error_bounds.specs.Rules.{as_read, distances};
+ghost use Rattle.interval_domain.specs.Ranges as ranges;
 ghost use Rattle.interval_domain.specs.Views.{span_range};
 ghost use Rattle.formula_bounds.specs.Nodes.{formula_of};
+ghost use Rattle.formula_bounds.specs.Walks.{either_if_there, entries_of_program, outcomes_if_there};
 ghost use Rattle.curves.specs.Slices as slices;
 ghost use Rattle.curves.specs.Slices.{AreBoundsOver, IsGreatest, IsNext, IsToHalve, IsWorst, at_ends, bounds_at, bounds_on, halved_at, in_column, middle, part_on};
 ghost use Rattle.curves.specs.declared.slices.Column.TheVariants as column;
 
-use error_bounds::Approximation;
-use fixed::{Constant, Frac};
-use formula_bounds::{Formula, Partial};
+use error_bounds::{Approximation, Outcomes};
+use fixed::{Constant, Frac, Fx};
+use formula_bounds::{Entry, Formula, Partial};
 use interval_domain::{Span, halves};
 use std::alloc::{AllocError, Allocator};
 use std::marker::Model;
 
 // A range is halved at most this many times.
 const HALVINGS: u32 = 256;
+// A walk divides at most at this many choices.
+const DIVISIONS: u32 = 3;
 
 /// A column of bounds.
 #[derive(Clone, Copy)]
@@ -129,13 +132,24 @@ fn greater_of_each(x: &Bounds, y: &Bounds) -> Bounds
     }
 }
 
+// The lesser of two bounds, or the one that is found.
+fn lesser(x: Option<u64>, y: Option<u64>) -> Option<u64>
+    ensures { result ≡ slices.lesser_bound x y }
+{
+    match (x, y) {
+        (Some(x), Some(y)) => Some(x.min(y)),
+        (Some(x), None) => Some(x),
+        (None, y) => y,
+    }
+}
+
 // The inputs with distances in the range, and the others as they were read.
 fn inputs_on<A: Allocator + Copy>(
     alloc: A,
     others: &[Constant],
     range: Span,
 ) -> Result<Vec<Approximation, A>, AllocError>
-    ensures { IfOk result (λ all. all.items ≡ distances (span_range range) ∷ map as_read others.now) }
+    ensures { IfOk result (λ all. all.items ≡ slices.inputs_on others.now (span_range range)) }
 {
     let mut inputs = Vec::new(alloc);
     inputs.push(Approximation::distances(range))?;
@@ -145,7 +159,126 @@ fn inputs_on<A: Allocator + Copy>(
     Ok(inputs)
 }
 
-// The bounds of one walk over the formula, for all distances in the range.
+// The bounds of an entry.
+fn bounds_of(entry: &Entry) -> Bounds
+    ensures { result ≡ slices.bounds_of entry.now }
+{
+    Bounds {
+        energy: bound_of(&entry.value),
+        slope: bound_of(&entry.slope),
+    }
+}
+
+// The approximation of a column in an entry.
+fn in_entry(column: Column, entry: &Entry) -> &Partial
+    ensures { result.now ≡ slices.in_entry column entry.now }
+{
+    match column {
+        Column::Energy => &entry.value,
+        Column::Slope => &entry.slope,
+    }
+}
+
+// The outcomes of an approximation, if there is one.
+fn outcomes_of(approximation: &Partial) -> Option<Outcomes>
+    ensures { result ≡ outcomes_if_there approximation.now }
+{
+    match approximation {
+        Some(approximation) => Some(Outcomes::of(approximation)),
+        None => None,
+    }
+}
+
+// The outcomes of either, if both are there.
+fn either_of(x: Option<Outcomes>, y: Option<Outcomes>) -> Option<Outcomes>
+    ensures { result ≡ either_if_there x y }
+{
+    match (x, y) {
+        (Some(x), Some(y)) => Some(x.either(&y)),
+        _ => None,
+    }
+}
+
+// The bound of a column in any of these entries.
+fn bound_of_all(column: Column, entries: &[Entry]) -> Option<u64>
+    requires { 0 < length entries.now }
+    ensures { result ≡ slices.bound_of_all (map (slices.in_entry column) entries.now) }
+{
+    let last = entries.len() - 1;
+    let mut outcomes = outcomes_of(in_entry(column, &entries[last]));
+    for index in (0..last).rev() {
+        outcomes = either_of(outcomes_of(in_entry(column, &entries[index])), outcomes);
+    }
+    match outcomes {
+        Some(outcomes) => bound_of(&outcomes.approximation()),
+        None => None,
+    }
+}
+
+// The bounds of one walk over the formula.
+fn plain_bounds<A: Allocator + Copy>(
+    alloc: A,
+    formula: &Formula<A>,
+    frac: Frac,
+    inputs: &[Approximation],
+) -> Result<Bounds, AllocError>
+    ensures { (program : Trees) → formula.now ≡ formula_of program
+        → IfOk result (λ b. b ≡ slices.plain_bounds (bits_of frac) program inputs.now) }
+{
+    Ok(bounds_of(&formula.entry(alloc, frac, inputs)?))
+}
+
+// The lesser of the bounds of one walk, and those of walks that divide. A walk that didn't divide has the bounds of one walk.
+fn least_bounds<A: Allocator + Copy>(
+    alloc: A,
+    formula: &Formula<A>,
+    frac: Frac,
+    inputs: &[Approximation],
+) -> Result<Bounds, AllocError>
+    ensures { (program : Trees) → formula.now ≡ formula_of program
+        → IfOk result (λ b. b ≡ slices.least_bounds (slices.plain_bounds (bits_of frac) program inputs.now)
+        (entries_of_program (bits_of frac) inputs.now program 3)) }
+{
+    let entries = formula.entries_of_walks(alloc, frac, inputs, DIVISIONS)?;
+    if entries.len() == 1 {
+        return Ok(bounds_of(&entries[0]));
+    }
+    let plain = plain_bounds(alloc, formula, frac, inputs)?;
+    if entries.is_empty() {
+        return Ok(plain);
+    }
+    Ok(Bounds {
+        energy: lesser(plain.energy, bound_of_all(Column::Energy, &entries)),
+        slope: lesser(plain.slope, bound_of_all(Column::Slope, &entries)),
+    })
+}
+
+// Whether a range with these ends has more than 16 distances.
+fn is_wide(lo: Fx, hi: Fx) -> bool
+    ensures { result ≡ slices.is_wide (ranges.range lo hi) }
+{
+    16 <= i128::from(hi.raw()) - i128::from(lo.raw())
+}
+
+// The bounds on these inputs, of one walk if the range is wide.
+fn bounds_by<A: Allocator + Copy>(
+    alloc: A,
+    formula: &Formula<A>,
+    frac: Frac,
+    inputs: &[Approximation],
+    wide: bool,
+) -> Result<Bounds, AllocError>
+    ensures { (program : Trees) → formula.now ≡ formula_of program
+        → IfOk result (λ b. b ≡ slices.bounds_by (bits_of frac) program inputs.now wide) }
+{
+    if wide {
+        plain_bounds(alloc, formula, frac, inputs)
+    } else {
+        least_bounds(alloc, formula, frac, inputs)
+    }
+}
+
+// The bounds for all distances in the range.
 fn bounds_on<A: Allocator + Copy>(
     alloc: A,
     formula: &Formula<A>,
@@ -156,12 +289,9 @@ fn bounds_on<A: Allocator + Copy>(
     ensures { (program : Trees) → formula.now ≡ formula_of program
         → IfOk result (λ b. b ≡ bounds_on (bits_of frac) program others.now (span_range range)) }
 {
+    let wide = is_wide(range.lo, range.hi);
     let inputs = inputs_on(alloc, others, range)?;
-    let entry = formula.entry(alloc, frac, &inputs)?;
-    Ok(Bounds {
-        energy: bound_of(&entry.value),
-        slope: bound_of(&entry.slope),
-    })
+    bounds_by(alloc, formula, frac, &inputs, wide)
 }
 
 // A range as a part.

@@ -26,3 +26,16 @@ pub record Agrees {V : Type 0} (k : Numbers V) (bits : ℕ) (p : Approximation) 
 -- the exact values, in error units, of all values in the range
 abbrev pub exact_range : Approximation → Range
 exact_range p = less (scaled p.computed (pos 256)) p.error
+
+-- The raw values that may be computed, and the exact values that they may meet, in error units: any of the first may meet
+-- any of the second.
+pub record Outcomes : Type 0 where
+  pub computed : Range
+  pub exact : Range
+
+abbrev pub outcomes : (computed exact : Range) → Outcomes
+outcomes computed exact = record { computed = computed; exact = exact }
+
+-- those of an approximation
+abbrev pub outcomes_of : Approximation → Outcomes
+outcomes_of p = outcomes p.computed (exact_range p)

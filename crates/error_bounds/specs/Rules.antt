@@ -22,7 +22,7 @@ use Rattle.fixed.specs.declared.operations.UnaryOperator.TheVariants as unary
 use Rattle.fixed.specs.declared.operations.Function.TheVariants as f
 use Rattle.fixed.specs.declared.operations.FlatFunction.{FlatFunction}
 use Rattle.fixed.specs.declared.operations.FlatFunction.TheVariants as flat
-use Rattle.error_bounds.specs.Approximations.{Approximation, approximation, exact_range, scale}
+use Rattle.error_bounds.specs.Approximations.{Approximation, Outcomes, approximation, exact_range, outcomes, scale}
 use Rattle.interval_domain.specs.Ranges.{Range, around, has_zero, hull, less, negated, operator_range, over, plus, quotients, range, scaled, times, turn_of, unary_range, up_over}
 
 -- ---- limits
@@ -235,3 +235,17 @@ is_only_zero x = (is_zero x.computed.low && is_zero x.computed.high) && (is_zero
 -- the second operand if the first isn't 0, else the third; the one that isn't chosen may be missing
 abbrev pub select_rule : (x : Approximation) → (y z : Option Approximation) → Option Approximation
 select_rule x y z = if is_not_zero x then y else if is_only_zero x then z else either_of y z
+
+-- both operands are needed
+abbrev pub is_undecided : Approximation → Bool
+is_undecided x = if is_not_zero x then false else if is_only_zero x then false else true
+
+-- ---- several walks
+
+-- the outcomes of either
+abbrev pub either_outcomes : (s t : Outcomes) → Outcomes
+either_outcomes s t = outcomes (hull s.computed t.computed) (hull s.exact t.exact)
+
+-- the approximation of a value with these outcomes
+abbrev pub of_outcomes : Outcomes → Option Approximation
+of_outcomes s = within_limits s.computed (Some (apart s.computed s.exact))

@@ -3,7 +3,7 @@ ghost use Rattle.std.specs.Prelude.{◌≡◌, ◌^◌};
 ghost use Rattle.error_bounds.specs.Approximations.{exact_range};
 ghost use Rattle.interval_domain.specs.Ranges as ranges;
 ghost use Rattle.interval_domain.specs.Ranges.{IsWithin};
-ghost use Rattle.error_bounds.specs.Rules.{either, either_of, is_not_zero, is_only_zero, select_rule};
+ghost use Rattle.error_bounds.specs.Rules.{either, either_of, is_not_zero, is_only_zero, is_undecided, select_rule};
 ghost use Rattle.interval_domain.specs.Views.{range_of};
 
 use crate::approximations::{Approximation, bounded};
@@ -34,6 +34,13 @@ pub(crate) fn is_not_zero(x: &Approximation) -> bool
     ensures { result ≡ is_not_zero x.now }
 {
     !has_zero(x.values()) && !has_zero(x.exact())
+}
+
+/// Whether both operands of a choice with this condition are needed: its value may be 0, and may not be.
+pub fn is_undecided(x: &Approximation) -> bool
+    ensures { result ≡ is_undecided x.now }
+{
+    !is_not_zero(x) && !is_only_zero(x)
 }
 
 /// Whether the computed and the exact value are 0.

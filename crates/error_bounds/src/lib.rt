@@ -12,13 +12,15 @@ mod flats;
 mod laws;
 mod operations;
 mod order;
+mod outcomes;
 mod powers;
 mod products;
 mod quotients;
 mod roots;
 
 pub use approximations::Approximation;
-pub use choices::select;
+pub use choices::{is_undecided, select};
 pub use laws::{decimals_are_read, integers_are_ordered};
 pub use operations::{apply, operate};
+pub use outcomes::Outcomes;
 pub use powers::power;

@@ -73,7 +73,7 @@ exponent_not_zero (pos (suc n)) e f = omega (arith, ints)
 exponent_not_zero (negsuc n) e f = omega (arith, ints)
 
 -- a scoped tree has allowed exponents
-scoped_exponents : (inputs first end : ℕ) (t : Tree) → is_scoped inputs first end t ≡ true → AreExponents t
+pub scoped_exponents : (inputs first end : ℕ) (t : Tree) → is_scoped inputs first end t ≡ true → AreExponents t
 scoped_exponents inputs first end (Number z) e = tt
 scoped_exponents inputs first end (Input n) e = tt
 scoped_exponents inputs first end (Definition j) e = tt
@@ -104,12 +104,12 @@ module _ {V : Type 0} (k : Numbers V) (h : AreOrdered k) (bits : ℕ) where
   -- ---- operations
 
   -- the value of an operation is approximated
-  operation_there : (g : Operator) (p q : Option Approximation) (z w : Option ℤ) (x y : Option V) → There p z x → There q w y
+  pub operation_there : (g : Operator) (p q : Option Approximation) (z w : Option ℤ) (x y : Option V) → There p z x → There q w y
       → There (a.operation bits g p q) (v.operation bits g z w) (numbers.operation k g x y)
   operation_there g p q z w x y s t = lift_two k h bits _ _ _ (right.operator_right k h bits g) p q z w x y s t
 
   -- the negative is approximated
-  negative_there : (p : Option Approximation) (z : Option ℤ) (x : Option V) → There p z x
+  pub negative_there : (p : Option Approximation) (z : Option ℤ) (x : Option V) → There p z x
       → There ((approximate bits).negative p) ((fixed_point bits).negative z) ((exact k).negative x)
   negative_there p z x t = lift_one k h bits _ _ _ (right.unary_right k h bits unary.Negate) p z x t
 
@@ -119,17 +119,17 @@ module _ {V : Type 0} (k : Numbers V) (h : AreOrdered k) (bits : ℕ) where
   square_there p z x t = lift_one k h bits _ _ _ (right.unary_right k h bits unary.Square) p z x t
 
   -- the value of a function is approximated
-  applied_there : (g : Function) (p : Option Approximation) (z : Option ℤ) (x : Option V) → There p z x
+  pub applied_there : (g : Function) (p : Option Approximation) (z : Option ℤ) (x : Option V) → There p z x
       → There (a.applied bits g p) (v.applied bits g z) (numbers.applied k g x)
   applied_there g p z x t = lift_one k h bits _ _ _ (right.unary_right k h bits (unary.Apply g)) p z x t
 
   -- the choice between two values is approximated
-  selected_there : (p q r : Option Approximation) (z w c : Option ℤ) (x y t : Option V) → There p z x → There q w y → There r c t
+  pub selected_there : (p q r : Option Approximation) (z w c : Option ℤ) (x y t : Option V) → There p z x → There q w y → There r c t
       → There ((approximate bits).selected p q r) ((fixed_point bits).selected z w c) ((exact k).selected x y t)
   selected_there p q r z w c x y t a b d = lift_select k h bits p q r z w c x y t a b d
 
   -- the power is approximated, if the exponent isn't 0
-  power_there : (n : ℤ) (p : Option Approximation) (z : Option ℤ) (x : Option V) → (n ≡ pos 0 → ⊥) → There p z x
+  pub power_there : (n : ℤ) (p : Option Approximation) (z : Option ℤ) (x : Option V) → (n ≡ pos 0 → ⊥) → There p z x
       → There ((approximate bits).power p n) ((fixed_point bits).power z n) ((exact k).power x n)
   power_there n p z x some t = lift_one k h bits _ _ _ (right.power_right k h bits n some) p z x t
 
@@ -138,7 +138,7 @@ module _ {V : Type 0} (k : Numbers V) (h : AreOrdered k) (bits : ℕ) where
   whole_there n = agreed_there k h bits (exactly (pos (n * 2 ^ bits))) (pos (n * 2 ^ bits)) (whole k.ring n) (jump.whole_agrees k h bits n)
 
   -- 0 is approximated
-  zero_there : There (Some (exactly (pos 0))) (Some (pos 0)) (Some o)
+  pub zero_there : There (Some (exactly (pos 0))) (Some (pos 0)) (Some o)
   zero_there = agreed_there k h bits (exactly (pos 0)) (pos 0) o (jump.zero_agrees k h bits)
 
   -- 1 is approximated
@@ -146,7 +146,7 @@ module _ {V : Type 0} (k : Numbers V) (h : AreOrdered k) (bits : ℕ) where
   one_there = agreed_there k h bits (exactly (one bits)) (one bits) i (jump.one_agrees k h bits)
 
   -- a slope that is 0 for trees free of the distance is approximated, if it is approximated for other trees
-  constant_there : (free : Bool) (p : Option Approximation) (z : Option ℤ) (x : Option V) → There p z x
+  pub constant_there : (free : Bool) (p : Option Approximation) (z : Option ℤ) (x : Option V) → There p z x
       → There (unless_constant (exactly (pos 0)) free p) (unless_constant (pos 0) free z) (unless_constant o free x)
   constant_there true p z x t = zero_there
   constant_there false p z x t = t
@@ -154,11 +154,11 @@ module _ {V : Type 0} (k : Numbers V) (h : AreOrdered k) (bits : ℕ) where
   -- ---- rows of the table of derivatives
 
   -- the values and the slopes of two parts are approximated
-  record Parts (u v du dv : Option Approximation) (z w dz dw : Option ℤ) (x y dx dy : Option V) : Type 0 where
-    first : There u z x
-    second : There v w y
-    first_slope : There du dz dx
-    second_slope : There dv dw dy
+  pub record Parts (u v du dv : Option Approximation) (z w dz dw : Option ℤ) (x y dx dy : Option V) : Type 0 where
+    pub first : There u z x
+    pub second : There v w y
+    pub first_slope : There du dz dx
+    pub second_slope : There dv dw dy
 
   module _ (u v du dv : Option Approximation) (z w dz dw : Option ℤ) (x y dx dy : Option V) (t : Parts u v du dv z w dz dw x y dx dy) where
     -- the first value times the second slope is approximated
@@ -202,14 +202,14 @@ module _ {V : Type 0} (k : Numbers V) (h : AreOrdered k) (bits : ℕ) where
         t.first_slope t.second_slope
 
     -- the slope of an operation is approximated; it is 0 if both parts are free of the distance
-    row_there : (g : Operator) (p q : Bool)
+    pub row_there : (g : Operator) (p q : Bool)
         → There (unless_constant (exactly (pos 0)) (p && q) (operation_row (approximate bits) g p q u v du dv))
         (unless_constant (pos 0) (p && q) (operation_row (fixed_point bits) g p q z w dz dw))
         (unless_constant o (p && q) (operation_row (exact k) g p q x y dx dy))
     row_there g p q = constant_there (p && q) _ _ _ (operation_row_there g p q)
 
   -- the slope of a function is approximated
-  applied_row_there : (g : Function) (u du : Option Approximation) (z dz : Option ℤ) (x dx : Option V) → There u z x → There du dz dx
+  pub applied_row_there : (g : Function) (u du : Option Approximation) (z dz : Option ℤ) (x dx : Option V) → There u z x → There du dz dx
       → There (applied_row (approximate bits) g u du) (applied_row (fixed_point bits) g z dz) (applied_row (exact k) g x dx)
   applied_row_there f.SquareRoot u du z dz x dx t d =
       operation_there op.Divide du _ dz _ dx _ d
@@ -233,7 +233,7 @@ module _ {V : Type 0} (k : Numbers V) (h : AreOrdered k) (bits : ℕ) where
       d
 
   -- the slope of each power other than 0 is approximated
-  power_row_there : (n : ℤ) (u du : Option Approximation) (z dz : Option ℤ) (x dx : Option V) → (n ≡ pos 0 → ⊥) → There u z x
+  pub power_row_there : (n : ℤ) (u du : Option Approximation) (z dz : Option ℤ) (x dx : Option V) → (n ≡ pos 0 → ⊥) → There u z x
       → There du dz dx → There (power_row (approximate bits) u n du) (power_row (fixed_point bits) z n dz) (power_row (exact k) x n dx)
   power_row_there (pos n) u du z dz x dx some t d = power_above n u du z dz x dx (n == 1) refl (above_zero n some) t d
   power_row_there (negsuc m) u du z dz x dx some t d =
@@ -270,10 +270,10 @@ module _ {V : Type 0} (k : Numbers V) (h : AreOrdered k) (bits : ℕ) where
     slope t = exact_slope k exacts t
 
     -- a written tree is free of the distance if the tree is
-    written_free : (t t' : Tree) → Written t t' → is_free_of_distance t' ≡ is_free_of_distance t
+    pub written_free : (t t' : Tree) → Written t t' → is_free_of_distance t' ≡ is_free_of_distance t
     written_free (Number c) _ (m.number {c = w} {j = j} e r) = rw (later_not_zero j) refl
     written_free (Input n) _ m.input = refl
-    written_free (Definition j) _ w = elim w [ ]
+    written_free (Definition j) _ m.definition = refl
     written_free (Negated t) _ (m.negated w) = written_free t _ w
     written_free (Binary g t u) _ (m.binary w y) = rw (written_free t _ w, written_free u _ y) refl
     written_free (Applied g t) _ (m.applied w) = written_free t _ w
@@ -289,20 +289,20 @@ module _ {V : Type 0} (k : Numbers V) (h : AreOrdered k) (bits : ℕ) where
     -- ---- numbers and inputs
 
     -- a constant is approximated by the value that was read
-    number_value : (c : Constant) (t : Tree) → Written (Number c) t → There (Some (as_read c)) (Some c.value) (value t)
+    pub number_value : (c : Constant) (t : Tree) → Written (Number c) t → There (Some (as_read c)) (Some c.value) (value t)
     number_value c _ (m.number {x = x} e r) =
         subst (There (Some (as_read c)) (Some c.value)) (sym e) (agreed_there k h bits (as_read c) c.value x (jump.read_agrees k h bits c x r))
 
     -- its slope is 0
-    number_slope : (c : Constant) (t : Tree) → Written (Number c) t → There (Some (exactly (pos 0))) (Some (pos 0)) (slope t)
+    pub number_slope : (c : Constant) (t : Tree) → Written (Number c) t → There (Some (exactly (pos 0))) (Some (pos 0)) (slope t)
     number_slope c _ (m.number {j = j} e r) = rw (later_not_zero j) zero_there
 
     -- the entry of a constant is right
-    number_right : (c : Constant) → Right (e.number bits c) (Number c)
+    pub number_right : (c : Constant) → Right (e.number bits c) (Number c)
     number_right c = record { free = refl; value = number_value c; slope = number_slope c }
 
     -- an input is approximated
-    input_value : (n : ℕ) (t : Tree) → Written (Input n) t → There (slice_get approximations n) (slice_get inputs n) (value t)
+    pub input_value : (n : ℕ) (t : Tree) → Written (Input n) t → There (slice_get approximations n) (slice_get inputs n) (value t)
     input_value n _ m.input = are n
 
     -- the slope of the distance is 1, and the slope of another input 0
@@ -312,12 +312,12 @@ module _ {V : Type 0} (k : Numbers V) (h : AreOrdered k) (bits : ℕ) where
     one_if false = zero_there
 
     -- the slope of an input is approximated
-    input_slope : (n : ℕ) (t : Tree) → Written (Input n) t
+    pub input_slope : (n : ℕ) (t : Tree) → Written (Input n) t
         → There (Some (if n == 0 then exactly (one bits) else exactly (pos 0))) (computed_slope (Input n)) (slope t)
     input_slope n _ m.input = one_if (n == 0)
 
     -- the entry of an input is right
-    input_right : (n : ℕ) → Right (e.input bits n (slice_get approximations n)) (Input n)
+    pub input_right : (n : ℕ) → Right (e.input bits n (slice_get approximations n)) (Input n)
     input_right n = record { free = refl; value = input_value n; slope = input_slope n }
 
     -- ---- operations

@@ -70,7 +70,7 @@ module _ (bits : ℕ) where
         → entries_from bits inputs i (d ∷ ds) ≡ entry_of bits inputs (known_from bits (suc i) (entries_from bits inputs (suc i) ds)) d ∷ entries_from bits inputs (suc i) ds
     numbered i d ds = let e : i + 1 ≡ suc i = omega arith in ap (λ n. entry_of bits inputs (known_from bits n (entries_from bits inputs n ds)) d ∷ entries_from bits inputs n ds) e
 
-    from_zero : (m j : ℕ) (es : List Entry) → known_from bits 0 (replicate m missing ++ es) j ≡ known_from bits m es j
+    pub from_zero : (m j : ℕ) (es : List Entry) → known_from bits 0 (replicate m missing ++ es) j ≡ known_from bits m es j
     from_zero m j es = let e : 0 + m ≡ m = omega arith in missing_in_front 0 m j es ∙ ap (λ n. known_from bits n es j) e
 
     -- the entries of the definitions from i on, if those from i + 1 on have theirs

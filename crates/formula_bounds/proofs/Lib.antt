@@ -1,5 +1,14 @@
 pub mod EntryLaws
+pub mod WalkLaws
+pub mod BranchLaws
+pub mod SideLaws
+pub mod OutcomeLaws
+pub mod WrittenLaws
 pub mod NodeLaws
 pub mod RowLaws
 pub mod StackLaws
+pub mod StepListLaws
+pub mod StepLaws
+pub mod DefinitionLaws
+pub mod SingleLaws
 pub mod FormulaLaws

@@ -1,3 +1,4 @@
 pub mod Entries
 pub mod Written
 pub mod Nodes
+pub mod Walks

@@ -1,13 +1,15 @@
 -- The nodes of a tree in a list, each before its parts and the last part first, and the entry that a walk over the list
 -- from its end computes with a stack.
-use Rattle.std.specs.Prelude.{ℕ, List, [], ◌∷◌, ◌++◌, map, drop, slice_get, slice_index_or, Vec}
+use Rattle.std.specs.List.{flat_map}
+use Rattle.std.specs.Prelude.{ℕ, ◌-◌, ◌==◌, if◌then◌else◌, Option, Some, None, List, [], ◌∷◌, ◌++◌, map, drop, slice_get, slice_index_or, slice_set, Vec}
 use Rattle.energy_program.specs.Programs.{Trees}
 use Rattle.energy_program.specs.Tree.{Tree, Number, Input, Definition, Negated, Binary, Applied, Power, Select}
 use Rattle.formula_bounds.specs.declared.nodes.Node.{Node}
 use Rattle.formula_bounds.specs.declared.nodes.Node.TheVariants as node
 use Rattle.error_bounds.specs.Approximations.{Approximation}
 use Rattle.formula_bounds.specs.Entries as e
-use Rattle.formula_bounds.specs.Entries.{Entry, missing}
+use Rattle.formula_bounds.specs.Entries.{Entry, known_from, missing}
+use Rattle.formula_bounds.specs.Walks as w
 
 -- the nodes of a tree
 abbrev pub nodes_of : Tree → List Node
@@ -40,6 +42,77 @@ module _ (bits : ℕ) (inputs : List Approximation) (known : ℕ → Entry) wher
   abbrev pub after_nodes : List Node → List Entry
   after_nodes [] = []
   after_nodes (n ∷ ns) = after_node n (after_nodes ns)
+
+-- ---- walks that divide
+
+-- a walk: the entries of all definitions, the stack, and the number of choices at which the walk may still divide
+pub record Walk : Type 0 where
+  pub known : List Entry
+  pub stack : List Entry
+  pub left : ℕ
+
+abbrev pub walk : (known stack : List Entry) → (left : ℕ) → Walk
+walk known stack left = record { known = known; stack = stack; left = left }
+
+-- the walk that is there, if one is
+abbrev pub if_there : Option Walk → List Walk
+if_there None = []
+if_there (Some w) = w ∷ []
+
+-- the number of a node's parts
+abbrev pub parts_of : Node → ℕ
+parts_of (node.Number c) = 0
+parts_of (node.Input i) = 0
+parts_of (node.Definition j) = 0
+parts_of node.Negated = 1
+parts_of (node.Binary o) = 2
+parts_of (node.Applied g) = 1
+parts_of (node.Power n) = 1
+parts_of node.Select = 3
+
+-- a walk that goes on with a branch of a node
+abbrev pub with_branch : Node → Entry → Walk → Walk
+with_branch n x w = walk w.known (x ∷ drop (parts_of n) w.stack) (w.left - 1)
+
+module _ (bits : ℕ) where
+  -- the branches of a node, if it is an open choice, whose parts are on top of the stack
+  abbrev pub branches_at : Node → List Entry → Option (Entry × Entry)
+  branches_at (node.Number c) stack = None
+  branches_at (node.Input i) stack = None
+  branches_at (node.Definition j) stack = None
+  branches_at node.Negated stack = None
+  branches_at (node.Binary o) stack = w.branches_of_two bits o (at_depth stack 1) (at_depth stack 0)
+  branches_at (node.Applied g) stack = w.branches_of_one bits g (at_depth stack 0)
+  branches_at (node.Power n) stack = None
+  branches_at node.Select stack = w.branches_of_select (at_depth stack 2) (at_depth stack 1) (at_depth stack 0)
+
+  -- the branches of the next node of a walk, if it is an open choice at which the walk may divide
+  abbrev pub branches_in : Node → Walk → Option (Entry × Entry)
+  branches_in n w = if w.left == 0 then None else branches_at n w.stack
+
+  -- a walk that goes on by a node without division
+  abbrev pub gone_on : (inputs : List Approximation) → Node → Walk → Walk
+  gone_on inputs n w = walk w.known (after_node bits inputs (known_from bits 0 w.known) n w.stack) w.left
+
+  -- the walks after a node of a walk with these branches
+  abbrev pub divided : (inputs : List Approximation) → Node → Option (Entry × Entry) → Walk → List Walk
+  divided inputs n None w = gone_on inputs n w ∷ []
+  divided inputs n (Some (first, second)) w = with_branch n first w ∷ with_branch n second w ∷ []
+
+  abbrev pub after_node_of : (inputs : List Approximation) → Node → Walk → List Walk
+  after_node_of inputs n w = divided inputs n (branches_in n w) w
+
+  -- the walks after a list of nodes, from its end
+  abbrev pub after_nodes_of : (inputs : List Approximation) → List Node → List Walk → List Walk
+  after_nodes_of inputs [] walks = walks
+  after_nodes_of inputs (n ∷ ns) walks = flat_map (after_node_of inputs n) (after_nodes_of inputs ns walks)
+
+-- a walk after a definition with this number, whose entry is on top of the stack
+abbrev pub after_definition : (number : ℕ) → Walk → Walk
+after_definition number w = walk (slice_set w.known number (at_depth w.stack 0)) (drop 1 w.stack) w.left
+
+abbrev pub top_of : Walk → Entry
+top_of w = at_depth w.stack 0
 
 -- ---- formulas
 

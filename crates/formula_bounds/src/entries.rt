@@ -6,10 +6,11 @@ ghost use Rattle.derivative.specs.Slope.{unless_constant};
 ghost use Rattle.error_bounds.specs.Approximate.{approximate};
 ghost use Rattle.formula_bounds.specs.Entries as e;
 ghost use Rattle.formula_bounds.specs.Entries.{reciprocal_row};
+ghost use Rattle.formula_bounds.specs.Walks as w;
 ghost use Rattle.error_bounds.specs.Rules as rules;
 
 use crate::partial::{Partial, apply, copied, operate, power, select};
-use error_bounds::Approximation;
+use error_bounds::{Approximation, is_undecided};
 use fixed::{Constant, FlatFunction, Frac, Function, Fx, Operator, UnaryOperator};
 use std::marker::Model;
 
@@ -97,6 +98,14 @@ fn quotient_slope(frac: Frac, x: &Entry, y: &Entry) -> Partial
     )
 }
 
+// The step of a value: whether it isn't negative.
+fn step_of(frac: Frac, x: &Partial) -> Partial
+    ensures { result ≡ (approximate (bits_of frac)).step x.now }
+{
+    let step = UnaryOperator::Apply(Function::Flat(FlatFunction::Step));
+    apply(frac, step, x)
+}
+
 // The slope of the minimum of `x` and `y`, by whether `y - x` is negative; and of the maximum of `y` and `x`.
 fn lesser_slope(
     frac: Frac,
@@ -108,8 +117,7 @@ fn lesser_slope(
     ensures { result ≡ (approximate (bits_of frac)).selected
         ((approximate (bits_of frac)).step ((approximate (bits_of frac)).difference y.now x.now)) chosen.now otherwise.now }
 {
-    let step = UnaryOperator::Apply(Function::Flat(FlatFunction::Step));
-    let step = apply(frac, step, &operate(frac, Operator::Subtract, y, x));
+    let step = step_of(frac, &operate(frac, Operator::Subtract, y, x));
     select(&step, chosen, otherwise)
 }
 
@@ -143,8 +151,7 @@ fn function_slope(frac: Frac, function: Function, x: &Entry) -> Partial
             )
         }
         Function::Absolute => {
-            let step = UnaryOperator::Apply(Function::Flat(FlatFunction::Step));
-            let step = apply(frac, step, &x.value);
+            let step = step_of(frac, &x.value);
             select(
                 &step,
                 &x.slope,
@@ -306,4 +313,93 @@ impl Entry {
             slope: unless_free(free, select(&x.value, &y.slope, &z.slope)),
         }
     }
+}
+
+// The condition of a minimum or a maximum; other operations have none.
+fn condition_of_two(frac: Frac, operator: Operator, x: &Entry, y: &Entry) -> Partial
+    ensures { result ≡ w.condition_of_two (bits_of frac) operator x.now y.now }
+{
+    match operator {
+        Operator::Minimum => step_of(frac, &operate(frac, Operator::Subtract, &y.value, &x.value)),
+        Operator::Maximum => step_of(frac, &operate(frac, Operator::Subtract, &x.value, &y.value)),
+        Operator::Add | Operator::Subtract | Operator::Multiply | Operator::Divide => None,
+    }
+}
+
+// The condition of an absolute value that has an approximation; other functions have none.
+fn condition_of_one(frac: Frac, function: Function, x: &Entry) -> Partial
+    ensures { result ≡ w.condition_of_one (bits_of frac) function x.now }
+{
+    match function {
+        Function::Absolute => match apply(frac, UnaryOperator::Apply(function), &x.value) {
+            Some(_) => step_of(frac, &x.value),
+            None => None,
+        },
+        Function::SquareRoot | Function::Flat(_) => None,
+    }
+}
+
+// Whether a condition has an approximation, but decides nothing.
+fn is_open(condition: &Partial) -> bool
+    ensures { result ≡ w.is_open condition.now }
+{
+    match condition {
+        Some(condition) => is_undecided(condition),
+        None => false,
+    }
+}
+
+// A branch that is taken: it counts as depending on the distance, as the choice does.
+fn taken(x: &Entry) -> Entry
+    ensures { result ≡ w.taken x.now }
+{
+    Entry {
+        free: false,
+        value: copied(&x.value),
+        slope: copied(&x.slope),
+    }
+}
+
+// Both branches of a choice that depends on the distance and is open.
+fn branches_if_open(
+    free: bool,
+    condition: &Partial,
+    first: &Entry,
+    second: &Entry,
+) -> Option<(Entry, Entry)>
+    ensures { result ≡ w.branches_if_open free condition.now first.now second.now }
+{
+    if free || !is_open(condition) {
+        None
+    } else {
+        Some((taken(first), taken(second)))
+    }
+}
+
+/// The branches of an operation, if it is an open choice.
+pub(crate) fn branches_of_two(
+    frac: Frac,
+    operator: Operator,
+    x: &Entry,
+    y: &Entry,
+) -> Option<(Entry, Entry)>
+    ensures { result ≡ w.branches_of_two (bits_of frac) operator x.now y.now }
+{
+    let condition = condition_of_two(frac, operator, x, y);
+    branches_if_open(x.free && y.free, &condition, x, y)
+}
+
+/// The branches of a function, if it is an open choice.
+pub(crate) fn branches_of_one(frac: Frac, function: Function, x: &Entry) -> Option<(Entry, Entry)>
+    ensures { result ≡ w.branches_of_one (bits_of frac) function x.now }
+{
+    let condition = condition_of_one(frac, function, x);
+    branches_if_open(x.free, &condition, x, &Entry::negated(frac, x))
+}
+
+/// The branches of a select, if it is an open choice.
+pub(crate) fn branches_of_select(x: &Entry, y: &Entry, z: &Entry) -> Option<(Entry, Entry)>
+    ensures { result ≡ w.branches_of_select x.now y.now z.now }
+{
+    branches_if_open(x.free && y.free && z.free, &x.value, y, z)
 }

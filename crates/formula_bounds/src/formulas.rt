@@ -1,24 +1,26 @@
 //! Formulas: the programs of energies, as lists of nodes, and their entries.
-ghost use Rattle.std.specs.Prelude.{◌≡◌, ℕ, ◌++◌, ◌-◌, drop, length, map, replicate, reverse, slice_get, slice_index_or, slice_set, ◌∷◌, ◌<◌, IfOk};
+ghost use Rattle.std.specs.Prelude.{◌≡◌, ℕ, ◌++◌, ◌-◌, drop, length, map, replicate, reverse, slice_get, slice_index_or, slice_set, ◌∷◌, [], ◌<◌, IfOk};
 ghost use Rattle.fixed.specs.Fractions.{bits_of};
 ghost use Rattle.energy_program.specs.Programs.{Trees, trees_of};
 ghost use Rattle.energy_program.specs.Tree.{tree_of};
 ghost use Rattle.formula_bounds.specs.Entries as e;
 ghost use Rattle.formula_bounds.specs.Entries.{entries_from, entry_of_program, known_from};
 ghost use Rattle.formula_bounds.specs.Nodes as nodes;
+ghost use Rattle.formula_bounds.specs.Walks.{Defined, entries_of_program, walks_from};
 ghost use Rattle.formula_bounds.specs.Nodes.{after_node, after_nodes, at_depth, nodes_of};
 
 use crate::entries::Entry;
 use crate::nodes::{Node, append_nodes};
 use crate::partial::Partial;
+use crate::walks::{Walk, define_all, tops, walk_all};
 use energy_program::{Expr, Program};
 use error_bounds::Approximation;
 use fixed::Frac;
 use std::alloc::{AllocError, Allocator};
 use std::marker::Model;
 
-// The entry on top of a stack, which is removed; of an empty stack, the entry of a definition that isn't there.
-fn popped<A: Allocator>(stack: &mut Vec<Entry, A>) -> Entry
+/// The entry on top of a stack, which is removed; of an empty stack, the entry of a definition that isn't there.
+pub(crate) fn popped<A: Allocator>(stack: &mut Vec<Entry, A>) -> Entry
     ensures top { result ≡ at_depth (reverse stack.old.items) 0 }
     ensures rest { reverse stack.new.items ≡ drop 1 (reverse stack.old.items) }
 {
@@ -50,8 +52,8 @@ fn known_at(known: &[Entry], number: usize) -> Entry
     }
 }
 
-// The entry of a node, whose parts are on top of the stack, which are removed.
-fn entry_of<A: Allocator>(
+/// The entry of a node, whose parts are on top of the stack, which are removed.
+pub(crate) fn entry_of<A: Allocator>(
     frac: Frac,
     inputs: &[Approximation],
     known: &[Entry],
@@ -214,5 +216,45 @@ impl<A: Allocator + Copy> Formula<A> {
     {
         let known = self.entries(alloc, frac, inputs)?;
         walk(alloc, frac, inputs, &known, &self.body)
+    }
+
+    // The walks over all definitions, from the last to the first, each of which divides at up to `left` choices.
+    fn walks(
+        &self,
+        alloc: A,
+        frac: Frac,
+        inputs: &[Approximation],
+        left: u32,
+    ) -> Result<Vec<Walk<A>, A>, AllocError>
+        ensures { (program : Trees) → self.now ≡ nodes.formula_of program
+            → IfOk result (λ all. all.items ≡ map (λ (d : Defined). nodes.walk d.entries [] d.left)
+            (walks_from (bits_of frac) inputs.now 0 program.1 left)) }
+    {
+        let mut walks = Vec::new(alloc);
+        walks.push(Walk::new(alloc, no_entries(alloc, self.definitions.len())?, left))?;
+        for index in (0..self.definitions.len()).rev() {
+            walk_all(alloc, frac, inputs, &mut walks, &self.definitions[index])?;
+            define_all(&mut walks, index);
+        }
+        Ok(walks)
+    }
+
+    /// The entries of the formula in all walks on these approximations of its inputs, each of which divides at up to `left`
+    /// open choices. There is at least one walk, and if none divides, its entry is the one that `entry` returns.
+    ///
+    /// Returns an error if memory ran out.
+    pub fn entries_of_walks(
+        &self,
+        alloc: A,
+        frac: Frac,
+        inputs: &[Approximation],
+        left: u32,
+    ) -> Result<Vec<Entry, A>, AllocError>
+        ensures { (program : Trees) → self.now ≡ nodes.formula_of program
+            → IfOk result (λ all. all.items ≡ entries_of_program (bits_of frac) inputs.now program left) }
+    {
+        let mut walks = self.walks(alloc, frac, inputs, left)?;
+        walk_all(alloc, frac, inputs, &mut walks, &self.body)?;
+        tops(alloc, &walks)
     }
 }

@@ -1,6 +1,7 @@
 use Rattle.fixed.specs.Fractions.{bits_of}
 use Rattle.curves.specs.Tables.{bounds_in, distances_of, others_of}
 use Rattle.formula_bounds.proofs.EntryLaws.{program_is_right}
+use Rattle.formula_bounds.proofs.WrittenLaws.{program_written}
 use Rattle.curves.proofs.HalvingLaws.{bounds_once}
 use Rattle.curves.proofs.SliceLaws.{bounds_are_right, derivatives_are_right}
 use Rattle.curves.proofs.TableLaws.{inputs_are}
@@ -12,6 +13,9 @@ returns-clause-entry g c = λ k h bits inputs exacts approximations are count pr
 
 pub returns-clause-bounds : goal.returns-clause-bounds
 returns-clause-bounds g c = λ k h bits count program scoped others r b over. bounds_are_right k h bits count program scoped others r b over
+
+pub returns-clause-written : goal.returns-clause-written
+returns-clause-written g c = λ k bits exacts n program have. program_written k bits exacts n program have
 
 pub returns-clause-exact : goal.returns-clause-exact
 returns-clause-exact g c = λ bits program others r b d s t. bounds_once bits program others r b d s t

@@ -1,7 +1,8 @@
 use Rattle.std.proofs.Common.{◌∙◌, ap}
 use Rattle.fixed.specs.Fractions.{bits_of}
 use Rattle.curves.specs.Slices.{greater_bounds}
-use Rattle.curves.proofs.PartLaws.{can_be_halved, halved_parts, last_is, read_index, some_left}
+use Rattle.curves.proofs.PartLaws.{can_be_halved, halved_parts, last_is, some_left}
+use Rattle.formula_bounds.proofs.StepListLaws.{read_index}
 use Rattle.curves.proofs.slices.halve.Goals as goal
 
 pub halves-requires : goal.halves-requires

@@ -1,0 +1,80 @@
+-- The bounds of several walks, as loops compute them.
+use Rattle.std.proofs.Common.{◌≡◌, ℕ, zero, suc, ◌-◌, ◌<◌, List, [], ◌∷◌, drop, length, map, get_or, Option, Some, None, refl, sym, ap, subst, ◌∙◌, arith}
+use Rattle.energy_program.specs.Programs.{Trees}
+use Rattle.error_bounds.specs.Approximations.{Approximation, Outcomes}
+use Rattle.formula_bounds.specs.Entries.{Entry}
+use Rattle.curves.specs.Slices.{BoundsView, bound_of_all, bounds_of, bounds_view, in_entry, least_bounds, lesser_bound, plain_bounds}
+use Rattle.formula_bounds.specs.Walks.{either_if_there, entries_of_program, outcomes_if_there, outcomes_of_all}
+use Rattle.curves.specs.declared.slices.Column.{Column}
+use Rattle.curves.specs.declared.slices.Column.TheVariants.{Energy, Slope}
+use Rattle.formula_bounds.proofs.SingleLaws.{single_entry, some_entries}
+
+-- the outcomes of the entries from an index on
+abbrev pub outcomes_from : Column → List Entry → ℕ → Option Outcomes
+outcomes_from column es i = outcomes_of_all (map (in_entry column) (drop i es))
+
+-- of the last entry
+pub last_outcomes : (column : Column) (es : List Entry) (i : ℕ) (x : Entry) (p : Option Approximation) (o : Option Outcomes) → 0 < length es
+    → i ≡ length es - 1 → x ≡ get_or es i x → p ≡ in_entry column x → o ≡ outcomes_if_there p → o ≡ outcomes_from column es i
+last_outcomes column es i x p o some at ex ep eo = eo ∙ ap outcomes_if_there (ep ∙ ap (in_entry column) ex) ∙ of_last es i at some ex
+  where
+    of_last : (es : List Entry) (i : ℕ) → i ≡ length es - 1 → 0 < length es → x ≡ get_or es i x
+        → outcomes_if_there (in_entry column (get_or es i x)) ≡ outcomes_from column es i
+    of_last [] i at some ex = absurd (omega arith)
+    of_last (y ∷ []) zero at some ex = refl
+    of_last (y ∷ []) (suc i) at some ex = absurd (omega arith)
+    of_last (y ∷ z ∷ zs) zero at some ex = absurd (omega arith)
+    of_last (y ∷ z ∷ zs) (suc i) at some ex = of_last (z ∷ zs) i (omega arith) (omega arith) ex
+
+-- and of one more entry
+more_outcomes : (column : Column) (es : List Entry) (i : ℕ) (x : Entry) → suc i < length es → x ≡ get_or es i x
+    → either_if_there (outcomes_if_there (in_entry column x)) (outcomes_from column es (suc i)) ≡ outcomes_from column es i
+more_outcomes column [] i x below ex = absurd (omega arith)
+more_outcomes column (y ∷ []) i x below ex = absurd (omega arith)
+more_outcomes column (y ∷ z ∷ zs) zero x below ex =
+    ap (λ (t : Entry). either_if_there (outcomes_if_there (in_entry column t)) (outcomes_of_all (map (in_entry column) (z ∷ zs)))) ex
+more_outcomes column (y ∷ z ∷ zs) (suc i) x below ex = more_outcomes column (z ∷ zs) i x (omega arith) ex
+
+pub one_more_outcomes : (column : Column) (es : List Entry) (i : ℕ) (x : Entry) (p : Option Approximation) (s o new : Option Outcomes) → 0 < i
+    → i < length es → x ≡ get_or es (i - 1) x → p ≡ in_entry column x → s ≡ outcomes_if_there p → o ≡ outcomes_from column es i
+    → new ≡ either_if_there s o → new ≡ outcomes_from column es (i - 1)
+one_more_outcomes column es zero x p s o new some below ex ep es' eo en = absurd (omega arith)
+one_more_outcomes column es (suc i) x p s o new some below ex ep es' eo en =
+    let e : suc i - 1 ≡ i = omega arith in
+    let here : x ≡ get_or es i x = subst (λ n. x ≡ get_or es n x) e ex in
+    subst (λ n. new ≡ outcomes_from column es n) (sym e)
+    (en ∙ ap (λ t. either_if_there t o) (es' ∙ ap outcomes_if_there ep)
+    ∙ ap (either_if_there (outcomes_if_there (in_entry column x))) eo ∙ more_outcomes column es i x below here)
+
+module _ (bits : ℕ) (inputs : List Approximation) (program : Trees) (left : ℕ) where
+  abbrev plain : BoundsView
+  plain = plain_bounds bits program inputs
+
+  abbrev least : List Entry → BoundsView
+  least es = least_bounds plain es
+
+  -- a single walk has the plain bounds
+  pub one_walk : (es : List Entry) (x : Entry) (b : BoundsView) → es ≡ entries_of_program bits inputs program left → length es ≡ 1
+      → x ≡ get_or es 0 x → b ≡ bounds_of x → b ≡ least (entries_of_program bits inputs program left)
+  one_walk [] x b e one ex eb = absurd (omega arith)
+  one_walk (y ∷ z ∷ zs) x b e one ex eb = absurd (omega arith)
+  one_walk (y ∷ []) x b e one ex eb =
+      eb ∙ ap bounds_of (ex ∙ single_entry bits inputs program left y (sym e)) ∙ ap least e
+
+  -- there is an entry
+  pub some_walk : (es : List Entry) → es ≡ entries_of_program bits inputs program left → 0 < length es
+  some_walk [] e = absurd (some_entries bits inputs program left (sym e))
+  some_walk (x ∷ xs) e = omega arith
+
+  -- several walks have the lesser bounds
+  pub several_walks : (es : List Entry) (p b : BoundsView) → es ≡ entries_of_program bits inputs program left → (length es ≡ 1 → ⊥) → p ≡ plain
+      → b ≡ bounds_view (lesser_bound p.energy (bound_of_all (map (in_entry Energy) es))) (lesser_bound p.slope (bound_of_all (map (in_entry Slope) es)))
+      → b ≡ least (entries_of_program bits inputs program left)
+  several_walks [] p b e one ep eb = absurd (some_entries bits inputs program left (sym e))
+  several_walks (x ∷ []) p b e one ep eb = absurd (one refl)
+  several_walks (x ∷ y ∷ ys) p b e one ep eb =
+      eb
+      ∙ ap (λ (q : BoundsView).
+      bounds_view (lesser_bound q.energy (bound_of_all (map (in_entry Energy) (x ∷ y ∷ ys))))
+      (lesser_bound q.slope (bound_of_all (map (in_entry Slope) (x ∷ y ∷ ys))))) ep
+      ∙ ap least e
