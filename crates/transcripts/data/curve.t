@@ -197,6 +197,55 @@ Where the operands meet, the slope jumps.
   0.899999999674 0.899999999674 2.33e-10 1.000000000000 0
   # greatest energy-error 2.33e-10 at 0.199999999953, slope-error 1.00e0 at 0.199999999953
 
+## Open choices
+
+Near 0.5 the computed and the exact distance may take different branches. Both uses of a definition take the same one, so
+their slopes cancel. Two choices without a definition are open one by one: a slope of 1 may meet a slope of 0.
+
+  $ with job 2 'energy y-y; y=min(r, 0.5)' pairmd curve job --points 2
+  # AR AR
+  # r/nm energy/(kJ/mol) energy-error slope/(kJ/mol/nm) slope-error
+  0.199999999953 0.000000000000 2.33e-10 0.000000000000 0 # large energy-error
+  0.549999999814 0.000000000000 0 0.000000000000 0
+  0.899999999674 0.000000000000 0 0.000000000000 0
+  # greatest energy-error 2.33e-10 at 0.199999999953, slope-error 0 at 0.199999999953
+  $ with job 2 'energy min(r, 0.5)-min(r, 0.5)' pairmd curve job --points 2
+  # AR AR
+  # r/nm energy/(kJ/mol) energy-error slope/(kJ/mol/nm) slope-error
+  0.199999999953 0.000000000000 2.33e-10 0.000000000000 2.00e0 # large energy-error slope-error
+  0.549999999814 0.000000000000 0 0.000000000000 0
+  0.899999999674 0.000000000000 0 0.000000000000 0
+  # greatest energy-error 2.33e-10 at 0.199999999953, slope-error 2.00e0 at 0.199999999953
+
+At the minimum of a Lennard-Jones potential, which is kept from there on, the slopes of both branches are nearly 0.
+
+  $ with job 2 'energy 4*(x^2-x); x=max(0.5, (0.4/r)^6)' with job 3 'core 0.44' pairmd curve job --points 2
+  # AR AR
+  # r/nm energy/(kJ/mol) energy-error slope/(kJ/mol/nm) slope-error
+  0.439999999944 -0.983372450806 1.66e-8 -3.970238398761 4.10e-7
+  0.669999999693 -1.000000000000 9.32e-10 0.000000000000 0
+  0.899999999674 -1.000000000000 9.32e-10 0.000000000000 0
+  # greatest energy-error 1.66e-8 at 0.439999999944, slope-error 4.10e-7 at 0.439999999944
+
+Three choices are walked with both branches. A fourth one isn't: the slope 0 or 2 of w is in the range from 0 to 2, with
+errors from -2 to 2. So the slope of w-w is from -2 to 2, with errors from -4 to 4, and exactly from -6 to 6. Of several
+walks any computed slope may meet any exact one, so the bound is 8.
+
+  $ with job 2 'energy x-x+(y-y)+(z-z); x=max(r, 0.5); y=abs(r-0.5); z=select(step(r-0.5), r, 0.5)' pairmd curve job --points 2
+  # AR AR
+  # r/nm energy/(kJ/mol) energy-error slope/(kJ/mol/nm) slope-error
+  0.199999999953 0.000000000000 6.99e-10 0.000000000000 0 # large energy-error
+  0.549999999814 0.000000000000 6.99e-10 0.000000000000 0 # large energy-error
+  0.899999999674 0.000000000000 6.99e-10 0.000000000000 0 # large energy-error
+  # greatest energy-error 6.99e-10 at 0.199999999953, slope-error 0 at 0.199999999953
+  $ with job 2 'energy w-w+(x-x)+(y-y)+(z-z); w=max(2*r, 1); x=max(r, 0.5); y=abs(r-0.5); z=select(step(r-0.5), r, 0.5)' pairmd curve job --points 2
+  # AR AR
+  # r/nm energy/(kJ/mol) energy-error slope/(kJ/mol/nm) slope-error
+  0.199999999953 0.000000000000 1.17e-9 0.000000000000 8.00e0 # large energy-error slope-error
+  0.549999999814 0.000000000000 1.17e-9 0.000000000000 0 # large energy-error
+  0.899999999674 0.000000000000 1.17e-9 0.000000000000 0 # large energy-error
+  # greatest energy-error 1.17e-9 at 0.199999999953, slope-error 8.00e0 at 0.199999999953
+
 ## Marks
 
 A row is marked if a bound exceeds a thousandth of its value. A jump of 1 is a thousandth of 1000.
