@@ -1,9 +1,11 @@
 -- Operations and tests on written fractions give equal results for equal fractions.
-use Rattle.std.proofs.Common.{◌≡◌, ℕ, suc, ◌+◌, ◌-◌, ◌*◌, ◌/◌, ◌<◌, ◌≤◌, Bool, true, false, arith, refl, sym, ap, subst, ◌∙◌}
+use Rattle.std.proofs.Common.{◌≡◌, ℕ, suc, ◌+◌, ◌-◌, ◌*◌, ◌/◌, ◌<◌, ◌≤◌, ◌==◌, Bool, true, false, arith, refl, sym, ap, subst, ◌∙◌}
 use Rattle.std.proofs.lemmas.Bool.{eq-eqb, eqb-false, eqb-true, lt-ltb, ltb-false, ltb-true}
 use Rattle.std.proofs.lemmas.Nat.{div_below, le-div}
 use Rattle.std.proofs.Math.Nat.{le_of_mul-le-mul_right, mul-le-mul_right}
-use Rattle.run_laws.specs.WrittenFractions.{Written, IsSame, sum_of, negative_of, product_of, is_nothing, is_below_nothing, reciprocal_of, floor_of}
+use Rattle.fixed.specs.Roots.{root}
+use Rattle.run_laws.specs.WrittenFractions.{Written, IsSame, sum_of, negative_of, product_of, is_nothing, is_below_nothing, reciprocal_of, over_square, is_square, root_of, floor_of}
+use Rattle.run_laws.proofs.SquareLaws.{root_of_square, square_from_fraction}
 
 pub same_sum_left : (a b c : Written) → IsSame a b → IsSame (sum_of a c) (sum_of b c)
 same_sum_left a b c e = cross a.plus a.minus a.below b.plus b.minus b.below c.plus c.minus c.below e
@@ -154,6 +156,67 @@ same_reciprocal a b e =
         let goal = turned (a.plus - a.minus) (b.plus - b.minus) a.below b.below (omega (arith, more)) (omega (arith, more'))
         (apart a.plus a.minus a.below b.plus b.minus b.below e (omega (arith, more))) in
         rw (none, an, below, ax) (omega (arith, goal))
+
+-- a square isn't negative, and its root's square is n d
+pub square_parts : (a : Written) → is_square a ≡ true
+    → (is_below_nothing a ≡ false) × (root (over_square a) * root (over_square a) ≡ over_square a)
+square_parts a t = by_sign (is_below_nothing a) refl
+  where
+    u : ℕ
+    u = root (over_square a)
+
+    by_sign : (x : Bool) → is_below_nothing a ≡ x → (is_below_nothing a ≡ false) × (u * u ≡ over_square a)
+    by_sign true ax = let other : is_square a ≡ false = rw ax refl in absurd (cc)
+    by_sign false ax =
+        let same : is_square a ≡ (u * u == over_square a) = rw ax refl in
+        (ax, eqb-true (u * u) (over_square a) (sym same ∙ t))
+
+-- For equal fractions n / d and m / f, and u^2 = n d: m f d^2 = (u f)^2.
+crossed_squares : (a b : Written) → IsSame a b → is_square a ≡ true
+    → over_square b * suc a.below * suc a.below ≡ (root (over_square a) * suc b.below) * (root (over_square a) * suc b.below)
+crossed_squares a b e t =
+    let parts = square_parts a t in
+    let d : ℕ = suc a.below in
+    let f : ℕ = suc b.below in
+    let u : ℕ = root (over_square a) in
+    let equal : (a.plus - a.minus) * f ≡ (b.plus - b.minus) * d =
+    apart a.plus a.minus a.below b.plus b.minus b.below e (ltb-false a.plus a.minus parts.0) in
+    turned (a.plus - a.minus) (b.plus - b.minus) d f equal ∙ ap (λ s. s * (f * f)) (sym parts.1) ∙ squared u f
+  where
+    turned : (i j d f : ℕ) → i * f ≡ j * d → (j * f) * d * d ≡ (i * d) * (f * f)
+    turned i j d f e = omega (arith, ap (λ s. s * (f * d)) e)
+
+    squared : (u f : ℕ) → u * u * (f * f) ≡ (u * f) * (u * f)
+    squared u f = omega arith
+
+-- equal fractions are both squares, or neither is
+pub same_square : (a b : Written) → IsSame a b → is_square a ≡ is_square b
+same_square a b e = alike (is_square a) (is_square b) (kept a b e) (kept b a (sym e))
+  where
+    kept : (a b : Written) → IsSame a b → is_square a ≡ true → is_square b ≡ true
+    kept a b e t =
+        let other : is_below_nothing b ≡ false = sym (same_below_nothing a b e) ∙ (square_parts a t).0 in
+        let v : ℕ = root (over_square b) in
+        let is : v * v ≡ over_square b =
+        square_from_fraction (over_square b) (suc a.below) (root (over_square a) * suc b.below) (omega arith) (crossed_squares a b e t) in
+        rw other (eq-eqb (v * v) (over_square b) is)
+
+-- the roots of equal fractions are equal
+pub same_root : (a b : Written) → IsSame a b → IsSame (root_of a) (root_of b)
+same_root a b e = by_test (is_square a) refl (sym (same_square a b e))
+  where
+    by_test : (t : Bool) → is_square a ≡ t → is_square b ≡ is_square a → IsSame (root_of a) (root_of b)
+    by_test false at alike = rw (alike, at) refl
+    by_test true at alike =
+        let d : ℕ = suc a.below in
+        let f : ℕ = suc b.below in
+        let u : ℕ = root (over_square a) in
+        let v : ℕ = root (over_square b) in
+        let parts = square_parts b (alike ∙ at) in
+        let theirs : over_square b * d * d ≡ (v * d) * (v * d) = ap (λ s. s * d * d) (sym parts.1) ∙ omega arith in
+        let squares : (u * f) * (u * f) ≡ (v * d) * (v * d) = sym (crossed_squares a b e at) ∙ theirs in
+        let same : u * f ≡ v * d = sym (root_of_square (u * f)) ∙ ap root squares ∙ root_of_square (v * d) in
+        rw (alike, at) (omega (arith, same))
 
 -- ---- as the definitions of fractions take them
 

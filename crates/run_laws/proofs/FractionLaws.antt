@@ -4,13 +4,14 @@ use mathlib.Core.Bool.{Bool-set}
 use mathlib.Core.HLevel.{Π_prop}
 use mathlib.Core.Quot.{mk, sound, ind, Quot-set}
 use Rattle.std.proofs.lemmas.Bool.{eqb-false}
+use Rattle.fixed.specs.Roots.{root}
 use Rattle.derivative.specs.Exact.{AreExact, IsRing, StandsForFraction, integer, whole}
-use Rattle.run_laws.specs.WrittenFractions.{Written, IsSame, both_below, sum_of, negative_of, product_of, natural, is_nothing, is_below_nothing, reciprocal_of, over}
-use Rattle.run_laws.specs.Fractions.{AreKept, Fraction, fraction, fraction_ring, fractions, is_below_zero, is_zero, plus, negative, times, reciprocal, quotient}
-use Rattle.run_laws.proofs.FractionClasses.{same_written}
+use Rattle.run_laws.specs.WrittenFractions.{Written, IsSame, both_below, sum_of, negative_of, product_of, natural, is_nothing, is_below_nothing, reciprocal_of, over_square, is_square, root_of, over}
+use Rattle.run_laws.specs.Fractions.{AreKept, Fraction, fraction, fraction_ring, fractions, is_below_zero, is_zero, plus, negative, times, reciprocal, quotient, has_root, root_part, square_root}
+use Rattle.run_laws.proofs.FractionClasses.{same_written, square_parts}
 
 -- if P holds for every written fraction, P holds for every fraction
-all : (P : Fraction → Type 0) → ((x : Fraction) → IsProp (P x)) → ((a : Written) → P (mk a)) → (x : Fraction) → P x
+pub all : (P : Fraction → Type 0) → ((x : Fraction) → IsProp (P x)) → ((a : Written) → P (mk a)) → (x : Fraction) → P x
 all P is h x = ind {r = IsSame} {β = P} is h x
 
 -- an equation holds for one, two or three fractions if it holds for written fractions
@@ -86,7 +87,8 @@ parts p m q n e some = by_order (nat_lt p m) (nat_lt m p) (nat_lt q n) refl refl
     by_order false false z ex ey ez = omega (arith, ltb-false p m ex, ltb-false m p ey)
 
 module _ (kept : AreKept) where
-  are_ring : IsRing (fraction_ring kept)
+  -- fractions are a commutative ring
+  pub are_ring : IsRing (fraction_ring kept)
   are_ring =
       record {
         plus_assoc = of_three (λ x y z. plus kept (plus kept x y) z) (λ x y z. plus kept x (plus kept y z)) (λ a b c. sound {r = IsSame} (sums_apart a b c));
@@ -101,7 +103,8 @@ module _ (kept : AreKept) where
 
   -- ---- zero
 
-  zero_alone : (x : Fraction) → is_zero kept x ≡ true → x ≡ fraction (natural 0)
+  -- if the zero test is true, a fraction is 0
+  pub zero_alone : (x : Fraction) → is_zero kept x ≡ true → x ≡ fraction (natural 0)
   zero_alone x =
       all (λ x. is_zero kept x ≡ true → x ≡ fraction (natural 0)) (λ x. Π_prop (λ t. Quot-set _ _))
       (λ a t. sound {r = IsSame} (nothing a.plus a.minus a.below (eqb-true a.plus a.minus t))) x
@@ -120,7 +123,8 @@ module _ (kept : AreKept) where
   found_zero : (x : Fraction) → x ≡ fraction (natural 0) → is_zero kept x ≡ true
   found_zero x e = ap (is_zero kept) e
 
-  not_found : (x : Fraction) → (x ≡ fraction (natural 0) → ⊥) → is_zero kept x ≡ false
+  -- if a fraction isn't 0, the zero test is false
+  pub not_found : (x : Fraction) → (x ≡ fraction (natural 0) → ⊥) → is_zero kept x ≡ false
   not_found x some = tested (is_zero kept x) refl
     where
       tested : (b : Bool) → is_zero kept x ≡ b → b ≡ false
@@ -171,7 +175,8 @@ module _ (kept : AreKept) where
   abbrev ring : IsRing (fraction_ring kept)
   ring = are_ring
 
-  quotient_times : (n d q : Fraction) → quotient kept n d ≡ Some q → times kept q d ≡ n
+  -- a quotient times its divisor is the dividend
+  pub quotient_times : (n d q : Fraction) → quotient kept n d ≡ Some q → times kept q d ≡ n
   quotient_times n d q e =
       let found = quotient_found n d q e in
       ap (λ x. times kept x d) found.1 ∙ ring.times_assoc n (reciprocal kept d) d
@@ -184,6 +189,40 @@ module _ (kept : AreKept) where
       ap (λ x. times kept x (reciprocal kept d)) (sym e) ∙ ring.times_assoc q d (reciprocal kept d)
       ∙ ap (λ x. times kept q x) (ring.times_comm d (reciprocal kept d) ∙ reciprocal_times d test) ∙ ring.times_one q in
       ap (λ b. if b then None else Some (times kept n (reciprocal kept d))) test ∙ ap Some back
+
+  -- ---- roots
+
+  -- If a root exists, the fraction is a square.
+  pub root_found : (x y : Fraction) → square_root kept x ≡ Some y → (has_root kept x ≡ true) × (root_part kept x ≡ y)
+  root_found x y e = tested (has_root kept x) refl e
+    where
+      tested : (b : Bool) → has_root kept x ≡ b → (if b then Some (root_part kept x) else None) ≡ Some y
+          → (has_root kept x ≡ true) × (root_part kept x ≡ y)
+      tested true t e = (t, cc)
+      tested false t e = absurd (cc)
+
+  -- the square of a square's root is that square
+  part_squared : (x : Fraction) → has_root kept x ≡ true → times kept (root_part kept x) (root_part kept x) ≡ x
+  part_squared x =
+      all (λ x. has_root kept x ≡ true → times kept (root_part kept x) (root_part kept x) ≡ x) (λ x. Π_prop (λ t. Quot-set _ _))
+      (λ a t. sound {r = IsSame} (squared a t)) x
+    where
+      crossed : (p m d u : ℕ) → m ≤ p → u * u ≡ (p - m) * suc d
+          → (u * u + 0 * 0) * suc d + m * suc (both_below d d) ≡ p * suc (both_below d d) + (u * 0 + 0 * u) * suc d
+      crossed p m d u some e =
+          let i : ℕ = p - m in
+          let there : p ≡ m + i = omega (arith, some) in
+          let wide : u * u * suc d ≡ i * suc d * suc d = ap (λ s. s * suc d) e in
+          let it : (u * u + 0 * 0) * suc d + m * suc (both_below d d) ≡ (m + i) * suc (both_below d d) + (u * 0 + 0 * u) * suc d = omega (arith, wide) in
+          it ∙ ap (λ s. s * suc (both_below d d) + (u * 0 + 0 * u) * suc d) (sym there)
+
+      squared : (a : Written) → is_square a ≡ true → IsSame (product_of (root_of a) (root_of a)) a
+      squared a t =
+          let parts = square_parts a t in
+          rw t (crossed a.plus a.minus a.below (root (over_square a)) (ltb-false a.plus a.minus parts.0) parts.1)
+
+  root_square : (x y : Fraction) → square_root kept x ≡ Some y → times kept y y ≡ x
+  root_square x y e = let found = root_found x y e in ap (λ s. times kept s s) (sym found.1) ∙ part_squared x found.0
 
   -- ---- order
 
@@ -207,7 +246,7 @@ module _ (kept : AreKept) where
         divisor = divisor;
         quotient_times = quotient_times;
         quotient_there = quotient_there;
-        root_square = λ x y e. absurd (cc);
+        root_square = root_square;
         order_kept = λ x y z. ap (λ s. not (is_below_zero kept s)) (difference_kept x y z);
       }
     where
@@ -216,14 +255,16 @@ module _ (kept : AreKept) where
 
   -- ---- numbers of trees
 
-  whole_is : (n : ℕ) → whole (fraction_ring kept) n ≡ fraction (natural n)
+  -- a natural number in the fractions is itself over 1
+  pub whole_is : (n : ℕ) → whole (fraction_ring kept) n ≡ fraction (natural n)
   whole_is zero = refl
   whole_is (suc n) = ap (λ x. plus kept x (fraction (natural 1))) (whole_is n) ∙ sound {r = IsSame} (next n)
     where
       next : (n : ℕ) → IsSame (sum_of (natural n) (natural 1)) (natural (suc n))
       next n = omega arith
 
-  integer_is : (z : ℤ) → integer (fraction_ring kept) z ≡ fraction (over z 0)
+  -- so is an integer
+  pub integer_is : (z : ℤ) → integer (fraction_ring kept) z ≡ fraction (over z 0)
   integer_is (pos n) = whole_is n
   integer_is (negsuc n) = ap (negative kept) (whole_is (suc n))
 

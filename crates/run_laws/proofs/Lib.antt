@@ -1,3 +1,4 @@
+pub mod SquareLaws
 pub mod FractionClasses
 pub mod FractionLaws
 pub mod Pigeonhole

@@ -7,7 +7,7 @@ use Rattle.energy_program.specs.Programs.{Trees}
 use Rattle.derivative.specs.Derive.{slope_program}
 use Rattle.derivative.specs.DualNumbers.{IsDerivativeProgram, IsScoped}
 use Rattle.derivative.specs.Exact.{AreExact, Numbers, Ring, StandsForFraction}
-use Rattle.run_laws.specs.WrittenFractions.{Written, IsSame, sum_of, negative_of, product_of, natural, is_nothing, is_below_nothing, reciprocal_of, floor_of, over}
+use Rattle.run_laws.specs.WrittenFractions.{Written, IsSame, sum_of, negative_of, product_of, natural, is_nothing, is_below_nothing, reciprocal_of, is_square, root_of, floor_of, over}
 
 -- The operations and tests on written fractions respect equivalence: equal fractions give equal results.
 pub record AreKept : Type 0 where
@@ -17,6 +17,8 @@ pub record AreKept : Type 0 where
   pub product_left : (a b c : Written) → IsSame a b → IsSame (product_of a c) (product_of b c)
   pub product_right : (a b c : Written) → IsSame b c → IsSame (product_of a b) (product_of a c)
   pub reciprocal : (a b : Written) → IsSame a b → IsSame (reciprocal_of a) (reciprocal_of b)
+  pub square : (a b : Written) → IsSame a b → is_square a ≡ is_square b
+  pub root : (a b : Written) → IsSame a b → IsSame (root_of a) (root_of b)
   pub floor : (a b : Written) → IsSame a b → IsSame (floor_of a) (floor_of b)
   pub nothing : (a b : Written) → IsSame a b → is_nothing a ≡ is_nothing b
   pub below_nothing : (a b : Written) → IsSame a b → is_below_nothing a ≡ is_below_nothing b
@@ -69,13 +71,24 @@ module _ (kept : AreKept) where
   abbrev pub quotient : Fraction → Fraction → Option Fraction
   quotient n d = if is_zero d then None else Some (times n (reciprocal d))
 
-  -- The numbers of energies over rational numbers: a constant of a tree is its raw value over 2^bits. Roots are
-  -- missing, since few rational numbers have one and the laws don't need them.
+  -- whether the fraction is the square of a fraction
+  abbrev pub has_root : Fraction → Bool
+  has_root x = lift {r = IsSame} Bool-set is_square kept.square x
+
+  -- the root that isn't negative; 0 if no fraction is a root
+  abbrev pub root_part : Fraction → Fraction
+  root_part x = of_one root_of kept.root x
+
+  abbrev pub square_root : Fraction → Option Fraction
+  square_root x = if has_root x then Some (root_part x) else None
+
+  -- The numbers of energies over rational numbers: a constant of a tree is its raw value over 2^bits. A quotient is
+  -- missing only if the divisor is 0, a root only if it isn't rational.
   abbrev pub fractions : (bits : ℕ) → Numbers Fraction
   fractions bits = record {
     ring = fraction_ring;
     quotient = quotient;
-    root = λ x. None;
+    root = square_root;
     is_zero = is_zero;
     is_at_most = λ x y. not (is_below_zero (plus y (negative x)));
     floor = floor;

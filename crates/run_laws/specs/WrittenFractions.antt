@@ -1,6 +1,7 @@
 -- Written fractions: the difference of two natural numbers over a positive one. So each law of the ring is an identity
 -- of natural numbers, which the prover's own arithmetic closes.
-use Rattle.std.specs.Prelude.{◌≡◌, ℕ, suc, ◌+◌, ◌-◌, ◌*◌, ◌/◌, ◌==◌, nat_lt, Bool, if◌then◌else◌, ℤ, pos, negsuc}
+use Rattle.std.specs.Prelude.{◌≡◌, ℕ, suc, ◌+◌, ◌-◌, ◌*◌, ◌/◌, ◌==◌, nat_lt, Bool, false, if◌then◌else◌, ℤ, pos, negsuc}
+use Rattle.fixed.specs.Roots.{root}
 
 -- (plus - minus) / (below + 1)
 pub record Written : Type 0 where
@@ -50,6 +51,17 @@ reciprocal_of a =
     if is_nothing a then natural 0
     else (if is_below_nothing a then record { plus = 0; minus = suc a.below; below = a.minus - a.plus - 1 }
     else record { plus = suc a.below; minus = 0; below = a.plus - a.minus - 1 })
+
+-- n / d is n d / d^2: so a fraction that isn't negative is the square of a fraction exactly if n d is a square
+abbrev pub over_square : Written → ℕ
+over_square a = (a.plus - a.minus) * suc a.below
+
+abbrev pub is_square : Written → Bool
+is_square a = if is_below_nothing a then false else root (over_square a) * root (over_square a) == over_square a
+
+-- the root of a square, which isn't negative; 0 for others
+abbrev pub root_of : Written → Written
+root_of a = if is_square a then record { plus = root (over_square a); minus = 0; below = a.below } else natural 0
 
 -- the greatest integer that is at most the fraction
 abbrev pub floor_of : Written → Written

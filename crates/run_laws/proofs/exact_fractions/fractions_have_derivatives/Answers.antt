@@ -1,5 +1,5 @@
 use Rattle.derivative.proofs.DualPrograms.{derivative_program}
-use Rattle.run_laws.proofs.FractionClasses.{same_below_nothing, same_floor_of, same_negative, same_nothing, same_product_left, same_product_right, same_reciprocal, same_sum_left, same_sum_right}
+use Rattle.run_laws.proofs.FractionClasses.{same_below_nothing, same_floor_of, same_negative, same_nothing, same_product_left, same_product_right, same_reciprocal, same_root, same_square, same_sum_left, same_sum_right}
 use Rattle.run_laws.proofs.FractionLaws.{are_exact, stands}
 use Rattle.run_laws.specs.Fractions.{fractions}
 use Rattle.run_laws.proofs.exact_fractions.fractions_have_derivatives.Goals as goal
@@ -12,6 +12,8 @@ returns-clause-kept c = record {
   product_left = same_product_left;
   product_right = same_product_right;
   reciprocal = same_reciprocal;
+  square = same_square;
+  root = same_root;
   floor = same_floor_of;
   nothing = same_nothing;
   below_nothing = same_below_nothing;
