@@ -1,6 +1,8 @@
 pub mod SquareLaws
 pub mod FractionClasses
 pub mod FractionLaws
+pub mod FractionOrder
+pub mod ExistingFractions
 pub mod Pigeonhole
 pub mod FrameNumbers
 pub mod SumLaws
