@@ -19,7 +19,7 @@ ghost use Rattle.curves.specs.Slices.{AreBoundsOver, AreRight, AreRightOfDerivat
 ghost use Rattle.curves.specs.Tables.{IsRow, bounds_in, distances_of, others_of};
 ghost use Rattle.formula_bounds.specs.Written.{AreApproximated, HaveNumbers, IsRight, IsWrittenProgram, numerals_of_program, program_with_inputs};
 
-/// Error bounds of a potential hold over every ordered field with roots, such as the real numbers.
+/// Error bounds of a potential hold over all ordered exact numbers, such as the rational and the real numbers.
 ///
 /// The exact formula has constants, parameters and globals that are any numbers within the errors of reading, among them
 /// the decimals of the job's text, and a distance from the computed one to the next. A constant of a definition has the
@@ -28,7 +28,8 @@ ghost use Rattle.formula_bounds.specs.Written.{AreApproximated, HaveNumbers, IsR
 pub fn errors_are_bounded<V>()
     // The approximations of a program are right for its value and for its slope.
     ensures entry { (k : Numbers V) → AreOrdered k → (bits : ℕ) (inputs : List ℤ) (exacts : List V)
-        → (approximations : List Approximation) → AreApproximated k bits approximations inputs exacts → (count : ℕ) (program : Trees) → IsScoped count program
+        → (approximations : List Approximation) → AreApproximated k bits approximations inputs exacts
+        → (count : ℕ) (program : Trees) → IsScoped count program
         → IsRight k bits inputs exacts (entry_of_program bits approximations program) (substituted program.0 program.1) }
     // Bounds over a range of distances are right at each of them.
     ensures bounds { (k : Numbers V) → AreOrdered k → (bits count : ℕ) (program : Trees) → IsScoped count program

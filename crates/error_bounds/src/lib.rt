@@ -1,4 +1,4 @@
-//! Error bounds of fixed-point operations, over every ordered field with roots.
+//! Error bounds of fixed-point operations, over all ordered exact numbers.
 //!
 //! An approximation has the range of the values that an operation may compute, and the range of their errors: the computed
 //! value less the exact one. A rule for each operation of energies gives the approximation of its result. The rules are
