@@ -61,7 +61,7 @@ line_told plan number e taken t d from line first is has h safe = record {
   line' = rw first at is;
 }
 
--- tells it
+-- the line that was printed
 pub told_line : (plan : ReplayPlanView) (number : ℕ) (e taken : EngineView) (t : StateView) (d : Option Difference) (from : ℤ) (line : List ℕ)
     (b : Bool) → from ≡ e.state.step → line ≡ segment_line from t.step d → IsReplayed plan number from t.step
     → Compares e t d → IsEngineOf e.job t taken → b ≡ is_some d → IsTold plan number e t b line

@@ -23,7 +23,7 @@ use Rattle.streams.specs.Plans.{IsReplayed, ReplayPlanView}
 use Rattle.streams.specs.Replays.{OfCounters, and_one}
 use Rattle.streams.specs.Segments.{FailsSegment, IsNotTaken, IsTold, SegmentTold, ToldBefore, ToldRun, ToldSegment, ToldWhole}
 use Rattle.streams.specs.Streams.{OfLeft}
-use Rattle.streams.specs.Watched.{AreAllWatched, AreDone, AreFirstWatched, AreOfSegment, AreWatched, AreWatchedBefore, AreWatchedTo, AreWatchedUpTo, AreOfRun, IsWatched, begins, goes_on, replayed}
+use Rattle.streams.specs.Watched.{AreAllWatched, AreDone, AreFirstWatched, AreOfSegment, AreWatched, AreWatchedBefore, AreWatchedTo, AreWatchedUpTo, AreOfRun, IsWatched, begins, goes_on, passed, replayed}
 use Rattle.streams.specs.declared.faults.StreamFault.{StreamFault}
 use Rattle.streams.specs.declared.faults.StreamFault.TheVariants as stream
 use Rattle.streams.proofs.ReplayStreamLaws.{Way, way_begins, way_goes}
@@ -63,18 +63,19 @@ module _ (plan : ReplayPlanView) (number : ℕ) (e : EngineView) (text : List �
   -- the text is no state's
   pub unread_stops : (A : Type 0) (n : ℕ) (failure : Failure StateFault) → told []
       → SegmentTold {A = A} plan number e text o told (state_fault n failure)
-  unread_stops A n (Refused f) none = inl none
+  unread_stops A n (Refused f) none = inl (tt, none)
   unread_stops A n Memory none = inl none
 
   -- a state that is passed isn't taken
-  pub passed_stops : {A : Type 0} (j : JobValue) (t : StateView) (n : ℕ) (f : StreamFault (InputFault A)) → IsNotTaken j t n f → told []
+  pub passed_stops : {A : Type 0} (j : JobValue) (t : StateView) (n : ℕ) (f : StreamFault (InputFault A)) → IsTextOf text t
+      → (IsReplayed plan number e.state.step t.step → ⊥) → IsNotTaken j t n f → told []
       → SegmentTold plan number e text o told f
-  passed_stops j t n (stream.State k f) h none = inl none
-  passed_stops j t n stream.Memory h none = inl none
-  passed_stops j t n (stream.Rejected f) h none = h
-  passed_stops j t n (stream.Differ k) h none = h
-  passed_stops j t n stream.CannotRead h none = h
-  passed_stops j t n (stream.Out f) h none = absurd h
+  passed_stops j t n (stream.State k f) is not h none = inr (record { s = t; state_text' = is; it = (0, ([], passed not, none)) })
+  passed_stops j t n stream.Memory is not h none = inl none
+  passed_stops j t n (stream.Rejected f) is not h none = h
+  passed_stops j t n (stream.Differ k) is not h none = h
+  passed_stops j t n stream.CannotRead is not h none = h
+  passed_stops j t n (stream.Out f) is not h none = absurd h
 
   module _ (t : StateView) (is : IsTextOf text t) (has : IsReplayed plan number e.state.step t.step) where
     -- the whole run to the state was reported
@@ -84,7 +85,7 @@ module _ (plan : ReplayPlanView) (number : ℕ) (e : EngineView) (text : List �
     -- the run to the state failed
     pub run_stops : {A : Type 0} (f : StreamFault (InputFault A)) → ToldBefore e.state.step t.step o told f
         → SegmentTold plan number e text o told f
-    run_stops (stream.State n f) (inl none) = inl none
+    run_stops (stream.State n f) (inl unrun) = inl unrun
     run_stops (stream.State n f) (inr run) = inr (record { s = t; state_text' = is; it = run_told run })
     run_stops stream.Memory (steps, made, reports, are, got) =
         inr (record { s = t; state_text' = is; it = (steps, made, (reports, replayed steps made reports has are, got)) })
@@ -143,10 +144,10 @@ module _ (plan : ReplayPlanView) (job : List ℕ) where
     pub opening_first : {A : Type 0} (failure : Failure (InputFault A))
         → OfLeft left (λ bytes. (reports : List Report) × AreWatchedBefore plan job o bytes o (opening_fault failure) reports × told reports)
     opening_first (Refused (input.Job f)) = (rest_of left, is_rest left, ([], (refl, refl), none))
-    opening_first (Refused (input.State f)) = (rest_of left, is_rest left, ([], (tt, inl (inl (refl, refl))), none))
+    opening_first (Refused (input.State f)) = (rest_of left, is_rest left, ([], (tt, inl (inl refl, inl (refl, refl))), none))
     opening_first (Refused (input.Energy f)) = (rest_of left, is_rest left, ([], (refl, refl), none))
-    opening_first (Refused (input.System f)) = (rest_of left, is_rest left, ([], (tt, inl (inl (refl, refl))), none))
-    opening_first (Refused input.ForceRange) = (rest_of left, is_rest left, ([], (tt, inl (inl (refl, refl))), none))
+    opening_first (Refused (input.System f)) = (rest_of left, is_rest left, ([], (tt, inl (inl refl, inl (refl, refl))), none))
+    opening_first (Refused input.ForceRange) = (rest_of left, is_rest left, ([], (tt, inl (inl refl, inl (refl, refl))), none))
     opening_first Memory = (rest_of left, is_rest left, ([], (0, inl (inl (refl, refl))), none))
 
   -- before the first segment
@@ -296,10 +297,10 @@ module _ (plan : ReplayPlanView) (job : List ℕ) where
       segment_watched (stream.Out f) r fails s =
           let some = whole_more s.s s.state_text' s.it in
           (bytes, is_bytes, (some.0, (m, fails.it.text, fails.it.beginning, some.1), some.2))
-      segment_watched (stream.State n f) r fails (inl none) =
+      segment_watched (stream.State n f) r fails (inl (unrun, none)) =
           let first = none_more none in
           subst (λ (x : Output). Before x (stream.State n f)) (sym fails.1)
-          (bytes, is_bytes, (first.0, (of_state e.job text (number + 2) n f fails.0, inl first.1), first.2))
+          (bytes, is_bytes, (first.0, (of_state e.job text (number + 2) n f fails.0, inl (inr unrun, first.1)), first.2))
       segment_watched (stream.State n f) r fails (inr s) =
           let some = whole_more s.s s.state_text' s.it in
           subst (λ (x : Output). Before x (stream.State n f)) (sym fails.1)

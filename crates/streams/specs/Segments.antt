@@ -12,7 +12,7 @@ use Rattle.state.specs.StateText.{StateView}
 use Rattle.streams.specs.OnTheWay.{HasNoState, OfState}
 use Rattle.streams.specs.Plans.{IsReplayed, ReplayPlanView}
 use Rattle.streams.specs.Replays.{IsVerdict, segment_line}
-use Rattle.streams.specs.Watched.{AreOfRun, AreOfSegment}
+use Rattle.streams.specs.Watched.{AreOfRun, AreOfSegment, IsUnrun}
 use Rattle.streams.specs.declared.differences.Difference.{Difference}
 use Rattle.streams.specs.declared.faults.StreamFault.{StreamFault}
 use Rattle.streams.specs.declared.faults.StreamFault.TheVariants as stream
@@ -53,10 +53,10 @@ FailsSegment plan number e text before after f = HasNoState e.job text (number +
 abbrev pub ToldRun : (from to : ℤ) → Output → (told : List Report → Type 0) → Type 0
 ToldRun from to o told = (steps : ℕ) × (reports : List Report) × AreOfRun from to o steps steps reports × told reports
 
--- The reports before a fault of a run that is compared: none if the state has other fraction bits, and all if it is
+-- The reports before a fault of a run that is compared: none if the state is rejected before the run, and all if it is
 -- rejected after the run. If memory ran out, those of the steps that were made.
 abbrev pub ToldBefore : {A : Type 0} → (from to : ℤ) → Output → (told : List Report → Type 0) → StreamFault (InputFault A) → Type 0
-ToldBefore from to o told (stream.State n f) = told [] ⊎ ToldRun from to o told
+ToldBefore from to o told (stream.State n f) = (IsUnrun f × told []) ⊎ ToldRun from to o told
 ToldBefore from to o told stream.Memory =
     (steps : ℕ) × (made : ℕ) × (reports : List Report) × AreOfRun from to o steps made reports × told reports
 ToldBefore from to o told _ = ⊥
@@ -75,7 +75,8 @@ ToldWhole plan number e t o told = (steps : ℕ) × ToldSegment plan number e t 
 abbrev pub SegmentTold : {A : Type 0} → ReplayPlanView → (number : ℕ) → EngineView → (text : List ℕ) → Output
     → (told : List Report → Type 0) → StreamFault (InputFault A) → Type 0
 SegmentTold plan number e text o told (stream.Out f) = OfState text (λ t. ToldWhole plan number e t o told)
-SegmentTold plan number e text o told (stream.State n f) = told [] ⊎ OfState text (λ t. ToldWhole plan number e t o told)
+SegmentTold plan number e text o told (stream.State n f) =
+    (IsUnrun f × told []) ⊎ OfState text (λ t. ToldWhole plan number e t o told)
 SegmentTold plan number e text o told stream.Memory =
     told [] ⊎ OfState text (λ t. (steps : ℕ) × (made : ℕ) × ToldSegment plan number e t o told steps made)
 SegmentTold plan number e text o told _ = ⊥

@@ -2,9 +2,11 @@
 use Rattle.std.specs.Prelude.{◌≡◌, ◌⊎◌, ◌≤◌, ℕ, ℤ, suc, List, [], ◌++◌, Some, Result, OnOk, IfErr}
 use Rattle.engine.specs.Engines.{AreSafe, IsOfState}
 use Rattle.engine.specs.declared.faults.InputFault.{InputFault}
+use Rattle.engine.specs.declared.faults.InputFault.TheVariants as input
 use Rattle.fallible.specs.Out.{Appends, AppendsBeginning, Output}
 use Rattle.integrator.specs.States.{counter_after}
 use Rattle.integrator.specs.declared.direction.Direction.{Direction}
+use Rattle.integrator.specs.declared.faults.SystemFault.TheVariants as system
 use Rattle.runs.specs.Watching.{Report, hundredths_behind, reports_at}
 use Rattle.state.specs.Sources.{Left}
 use Rattle.streams.specs.Plans.{IsReplayed, ReplayPlanView}
@@ -83,14 +85,23 @@ module _ (plan : ReplayPlanView) (job : List ℕ) (o : Output) (bytes : List ℕ
   abbrev pub AreWatchedTo : (made : ℕ) → List Report → Type 0
   AreWatchedTo made reports = AreFirstWatched reports ⊎ ((steps : ℕ) × AreWatchedUpTo steps made reports)
 
+-- A state with this fault is rejected before the segment to it is run: its text is no state's, or it has another number
+-- of fraction bits than the job.
+abbrev pub IsUnrun : {A : Type 0} → InputFault A → Type 0
+IsUnrun (input.State f) = Unit {0}
+IsUnrun (input.System system.BitsDiffer) = Unit {0}
+IsUnrun _ = ⊥
+
 -- The reports before a fault, and the output then. The segments of the states before the fault were replayed. If a line
--- wasn't written whole, its segment was run. If a state is rejected, the segment to it was run or not. If memory ran out,
--- some steps of the segment were made.
+-- wasn't written whole, its segment was run. If a state is rejected, the segment to it was run, if it is to be replayed;
+-- unless it is the first state, or is rejected before the run (`IsUnrun`). If memory ran out, some steps of the segment
+-- were made.
 abbrev pub AreWatchedBefore : {A : Type 0} → ReplayPlanView → (job : List ℕ) → (before : Output) → (bytes : List ℕ)
     → (after : Output) → StreamFault (InputFault A) → List Report → Type 0
 AreWatchedBefore plan job o bytes after (stream.Rejected f) reports = (after ≡ o) × (reports ≡ [])
 AreWatchedBefore plan job o bytes after (stream.State n f) reports = IsOfState f
-    × (AreFirstWatched plan job o bytes after reports ⊎ ((steps : ℕ) × AreWatchedUpTo plan job o bytes after steps steps reports))
+    × ((((n ≡ 1) ⊎ IsUnrun f) × AreFirstWatched plan job o bytes after reports)
+    ⊎ ((steps : ℕ) × AreWatchedUpTo plan job o bytes after steps steps reports))
 AreWatchedBefore plan job o bytes after (stream.Differ n) reports = AreAllWatched plan job o bytes after reports
 AreWatchedBefore plan job o bytes after stream.CannotRead reports = AreFirstWatched plan job o bytes after reports
 AreWatchedBefore plan job o bytes after (stream.Out f) reports = (now : Output) × (line : List ℕ) × AppendsBeginning now after line

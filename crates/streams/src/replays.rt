@@ -78,13 +78,12 @@ pub fn replay_states<
     let mut text = Vec::new(alloc);
     next_text(lines, &mut text)?;
     let mut engine = open(alloc, job, &text)?;
-    replay_each(rt, alloc, &mut engine, &mut text, lines, plan, watch, out)
+    replay_each(rt, &mut engine, &mut text, lines, plan, watch, out)
 }
 
 /// Replays the segments from the state of an engine, whose text is `text`, on.
 fn replay_each<R: Threads + Sync, A: Allocator + Copy + Send + Sync, L: Lines, W: Watch, O: Out>(
     rt: &R,
-    alloc: A,
     engine: &mut Engine<A>,
     text: &mut Vec<u8, A>,
     lines: &mut L,
@@ -101,6 +100,7 @@ fn replay_each<R: Threads + Sync, A: Allocator + Copy + Send + Sync, L: Lines, W
         → IsWatched (replay_plan_view plan.now) job (with_text text.old.items (L.left lines.old)) (O.output out.old)
         (O.output out.new) (W.told watch.old watch.new) result }
 {
+    let alloc = *text.allocator();
     let mut number = 0;
     let mut differing = 0;
     loop {

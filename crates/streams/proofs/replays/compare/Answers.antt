@@ -15,7 +15,7 @@ returns-then-ne-clause-refused g c =
     (refl, tt, bits_refused c.args.engine.now (state_view c.args.state) c.requires other)
 
 pub returns-then-ne-clause-stopped : goal.returns-then-ne-clause-stopped
-returns-then-ne-clause-stopped g c = inl (g.met.W.Watch.told_nothing c.args.watch.now)
+returns-then-ne-clause-stopped g c = inl (tt, g.met.W.Watch.told_nothing c.args.watch.now)
 
 -- the state that the engine reached has the job's
 pub first_difference-difference-requires-clause-frac : goal.first_difference-difference-requires-clause-frac

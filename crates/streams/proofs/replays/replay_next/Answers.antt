@@ -56,9 +56,12 @@ pub returns-in_err-take-clause-stopped : goal.returns-in_err-take-clause-stopped
 returns-in_err-take-clause-stopped g c =
     let p = err_from_is_err_and c.from_residual.result c.from_residual.ensures.1 in
     let w = c.args.watch.now in
+    let from = to_z-of_z w64 c.step-from.result (search rules) in
+    let to = to_z-of_z w64 c.in-Ok.state.step (search rules) in
     rw (p.1, p.2) (passed_stops (replay_plan_view c.args.plan.now) c.args.number c.args.engine.now c.args.text.now
-    (g.O.Out.output c.args.out.now) (g.W.Watch.told w w) _ _ _ c.in_err-take.field-0.0 c.in_err-take.ensures.refused
-    (g.met.W.Watch.told_nothing w))
+    (g.O.Out.output c.args.out.now) (g.W.Watch.told w w) _ (state_view c.in-Ok.state) _ c.in_err-take.field-0.0
+    (record { fits = c.in-Ok.ensures.found.0; is = c.in-Ok.ensures.found.1 })
+    (rw (from, to, c.step-from.ensures) at c.if-not-replays.ensures.not) c.in_err-take.ensures.refused (g.met.W.Watch.told_nothing w))
 
 -- the run to its state failed
 pub returns-in_err-difference-clause-stopped : goal.returns-in_err-difference-clause-stopped
