@@ -41,9 +41,9 @@ use Rattle.runs.specs.Shown.{IsUnshown}
 use Rattle.runs.specs.Unwritten.{IsRunUnwritten}
 use Rattle.runs.specs.Visits.{Showing}
 use Rattle.runs.proofs.RunLaws.{run_unwritten, run_wants}
-use Rattle.cli.specs.Actions.{CodeText, Contents, CurveText, EndOfRun, Explanation, FrameText, Held, ListingVerdict, OfJob, OfKnownFiles, OfKnownTask, OfTask, OneText, Paths, QuantityText, SlopeVerdict, StartText, StatesOfRun, StatesOfStream, Task, Text, UpTo, Work, action_of, also_requested, requested_by, check_action, files_of, work_of}
-use Rattle.cli.specs.Command.{Any, HasOutput, HasText, IsKept, IsSaid, PrintsBefore, PrintsIfCounted, ReportsDone, plan_of}
-use Rattle.cli.specs.CommandFailure.{BeginsOutput, DoNotFit, HasNoCode, HasNoEnergyCode, HasNoSlope, HaveNoEngine, IsCodeRejected, IsFailure, IsFileFailed, IsListingRejected, IsMisused, IsNoJob, IsNoListing, IsNoState, IsNotOneRun, IsOutOfMemory, IsOutputFailed, IsRejected, IsUnreadable, LackCode, LackSlope, LacksCode, LacksData, LacksFile, LacksTextCode, LeavesTexts, LosesStream, RejectsCode, RejectsData, RejectsNext, ReportsSome}
+use Rattle.cli.specs.Actions.{CodeText, Contents, CurveText, EndOfRun, Explanation, FrameText, Held, ListingVerdict, OfJob, OfKnownFiles, OfKnownTask, OfTask, OneText, Paths, QuantityText, SlopeVerdict, StartText, StatesOfRun, StatesOfStream, Task, Text, UpTo, action_of, also_requested, requested_by, check_action, files_of, work_of}
+use Rattle.cli.specs.Command.{Any, HasOutput, HasText, IsKept, IsSaid, PrintsBefore, PrintsIfCounted, plan_of}
+use Rattle.cli.specs.CommandFailure.{BeginsOutput, DoNotFit, HasNoCode, HasNoEnergyCode, HasNoSlope, HaveNoEngine, IsCodeRejected, IsFailure, IsFileFailed, IsListingRejected, IsMisused, IsNoJob, IsNoListing, IsNoState, IsNotOneRun, IsOutOfMemory, IsOutputFailed, IsRejected, IsUnreadable, LackCode, LackSlope, LacksCode, LacksData, LacksFile, LacksTextCode, LeavesTexts, LosesStream, RejectsCode, RejectsData, RejectsNext, ReportsMemory, ReportsPart}
 use Rattle.cli.specs.Conversions.{IsFrameOf, IsStartText}
 use Rattle.cli.specs.CurveTexts.{HasPair, IsFirstLacking, LacksPair, LacksType, Names}
 use Rattle.cli.specs.Failures.{fault_of_run, fault_of_stream}
@@ -63,9 +63,10 @@ use Rattle.state.specs.declared.sources.ReadFault.{ReadFault}
 use Rattle.state.specs.declared.sources.ReadFault.TheVariants as read
 use Rattle.cli.proofs.AcceptLaws.{code_given, code_of_texts_given, counter_given, engine_given, text_code_given, text_given}
 use Rattle.cli.proofs.FileLaws.{AreHeld, gather, known_also, known_lacks, of_known, of_task}
-use Rattle.cli.proofs.ProgressLaws.{may_also, told_code, told_data}
+use Rattle.cli.proofs.ProgressLaws.{IsOnWay, data_memory, read_memory, told_code, told_data}
 use Rattle.cli.proofs.StatusLaws.{one_number}
 use Rattle.cli.proofs.StreamLaws.{IsSound, none_printed, sound_replayed, sound_shown, states_given, stream_code_given, stream_read}
+use Rattle.cli.proofs.WorkLines.{IsUnbegun, orderly, unbegun}
 use Rattle.state.proofs.StateLaws.{faults_start_none}
 use Rattle.streams.specs.Streams.{Breaks, OfFirst, RejectsJob, StreamOutput}
 use Rattle.streams.specs.declared.faults.StreamFault.{StreamFault}
@@ -298,14 +299,15 @@ IsSoundTask (StatesOfStream o states job bytes) = IsSound o job
 IsSoundTask _ = Unit {0}
 
 -- The fault of a task, and the output after it:
--- - `by_data`: data are rejected, for a stream after the texts of the states before, or after all if some differ;
+-- - `by_data`: data are rejected, before any output, or for a stream after the texts of the states before, or after all if
+--   some differ;
 -- - `by_code`: code is rejected;
 -- - `by_file`: a stream can't be read on;
 -- - `by_output`: a write failed;
 -- - `by_memory`: memory ran out, before any text or after some texts of a stream;
 -- - `by_steps`: memory ran out after some steps.
 data IsEnded {A : Type 0} (held : Held) (t : Task) (before after : Output) (f : CommandFault A) : Type 0 where
-  by_data : status_of f ≡ status.RefusedData → RejectsData t before after → IsEnded held t before after f
+  by_data : status_of f ≡ status.RefusedData → (after ≡ before) ⊎ IsOnWay f → RejectsData t before after → IsEnded held t before after f
   by_code : status_of f ≡ status.RefusedKernel → RejectsCode t → after ≡ before → IsEnded held t before after f
   by_file : (borrowed : Bor (List ℕ)) → f ≡ fault.CannotRead borrowed → LosesStream held t before after → IsEnded held t before after f
   by_output : (o : OutFault) → f ≡ fault.Out o → BeginsOutput t before after → IsEnded held t before after f
@@ -316,7 +318,7 @@ data IsEnded {A : Type 0} (held : Held) (t : Task) (before after : Output) (f : 
 caused : {A : Type 0} (held : Held) (t : Task) (Data Code : Type 0) (before after : Output) (f : CommandFault A)
     → (Data → RejectsData t before after) → (Code → RejectsCode t) → after ≡ before → Cause f Data Code
     → IsEnded held t before after f
-caused held t Data Code before after f data' code' same (inl h) = by_data h.0 (data' h.1)
+caused held t Data Code before after f data' code' same (inl h) = by_data h.0 (inl same) (data' h.1)
 caused held t Data Code before after f data' code' same (inr (inl h)) = by_code h.0 (code' h.1) same
 caused held t Data Code before after f data' code' same (inr (inr memory)) = by_memory memory (inl same)
 
@@ -332,7 +334,7 @@ run_ended held job state r before after (run.Rejected f) (why, same) =
     caused held (EndOfRun job state r) _ _ before after (fault.Rejected f) (λ lacks. (inl lacks, same)) (λ x. x) same
     (engine_cause job state f why)
 run_ended held job state r before after run.Memory same = by_memory refl (inl same)
-run_ended held job state r before after (run.Steps step.StepRange) (why, same) = by_data refl (inr (why.1, why.0), same)
+run_ended held job state r before after (run.Steps step.StepRange) (why, same) = by_data refl (inl same) (inr (why.1, why.0), same)
 run_ended held job state r before after (run.Steps (step.Memory done)) h = by_steps done refl h
 run_ended held job state r before after (run.Out o) h = by_output o refl h
 
@@ -344,7 +346,7 @@ visits_ended held Shows job state v before after (run.Rejected f) h =
     caused held (StatesOfRun Shows job state v) _ _ before after (fault.Rejected f) (λ lacks. (inl lacks, h.1)) (λ x. x) h.1
     (code_or_engine job state Shows.observes f h.0)
 visits_ended held Shows job state v before after run.Memory h = by_memory refl (inl h.1)
-visits_ended held Shows job state v before after (run.Steps step.StepRange) h = by_data refl (inr h.0, h.1)
+visits_ended held Shows job state v before after (run.Steps step.StepRange) h = by_data refl (inl h.1) (inr h.0, h.1)
 visits_ended held Shows job state v before after (run.Steps (step.Memory done)) h = by_steps done refl (h.0.0, h.0.1, h.1)
 visits_ended held Shows job state v before after (run.Out o) h = by_output o refl (h.0.0, h.0.1, h.1)
 
@@ -370,16 +372,20 @@ module _ {A : Type 0} (held : Held) (o : StreamOutput) (states job bytes : List 
   misfits g f of_state h some next same =
       rejects g h (some, inr (inr (next.0, next.1, next.2, misfit {A = A} job next.0 f of_state next.3))) same
 
+  -- a rejected job comes before the first state
+  at_start : (f : InputFault A) (h : Stops (stream.Rejected f)) → (bytes ≡ h.rest) × (h.between ≡ before)
+  at_start f h = none_printed o job bytes (part_of (stream.Rejected f) h) h.text before h.between sound h.stops.0 h.split h.has h.appends
+
   -- the job is rejected, or code for the first state
   by_job : (f : InputFault A) (h : Stops (stream.Rejected f)) → RejectsJob o.observes job h.rest f
       → IsEnded held (StatesOfStream o states job bytes) before after (fault.Rejected f)
   by_job (input.Job f) h (inl (other, why)) =
-      by_data refl (rejects (stream.Rejected (input.Job f)) h (inl h.stops.0, inl (no_job job f why)) h.stops.2)
+      by_data refl (inl (h.stops.2 ∙ (at_start (input.Job f) h).1))
+      (rejects (stream.Rejected (input.Job f)) h (inl h.stops.0, inl (no_job job f why)) h.stops.2)
   by_job (input.Energy f) h why = by_energy why
     where
       start : (bytes ≡ h.rest) × (h.between ≡ before)
-      start = none_printed o job bytes (part_of (stream.Rejected (input.Energy f)) h) h.text before h.between sound h.stops.0 h.split
-          h.has h.appends
+      start = at_start (input.Energy f) h
 
       by_energy : RejectsJob o.observes job h.rest (input.Energy f)
           → IsEnded held (StatesOfStream o states job bytes) before after (fault.Rejected (input.Energy f))
@@ -399,15 +405,15 @@ module _ {A : Type 0} (held : Held) (o : StreamOutput) (states job bytes : List 
   stream_ended (stream.State number (input.Job f)) h = absurd h.stops.2
   stream_ended (stream.State number (input.State f)) h =
       let next = h.stops.3 in
-      by_data refl (rejects (stream.State number (input.State f)) h (h.stops.1, inr (inl (faults_start_none h.rest f next.2 next.3))) h.stops.4)
+      by_data refl (inr tt) (rejects (stream.State number (input.State f)) h (h.stops.1, inr (inl (faults_start_none h.rest f next.2 next.3))) h.stops.4)
   stream_ended (stream.State number (input.Energy f)) h = absurd h.stops.2
   stream_ended (stream.State number (input.System f)) h =
-      by_data refl (misfits (stream.State number (input.System f)) (input.System f) tt h h.stops.1 h.stops.3 h.stops.4)
+      by_data refl (inr tt) (misfits (stream.State number (input.System f)) (input.System f) tt h h.stops.1 h.stops.3 h.stops.4)
   stream_ended (stream.State number input.ForceRange) h =
-      by_data refl (misfits (stream.State number input.ForceRange) input.ForceRange tt h h.stops.1 h.stops.3 h.stops.4)
+      by_data refl (inr tt) (misfits (stream.State number input.ForceRange) input.ForceRange tt h h.stops.1 h.stops.3 h.stops.4)
   stream_ended (stream.Differ segments) h =
       let differ : IsNotOneRun (part_of (stream.Differ segments) h) = (h.stops.2, subst (λ n. 0 < n) h.stops.0 h.stops.1, h.stops.3) in
-      by_data refl (part_of (stream.Differ segments) h, h.text, h.between, h.split, h.has, h.appends, (inr differ, h.stops.4))
+      by_data refl (inr tt) (part_of (stream.Differ segments) h, h.text, h.between, h.split, h.has, h.appends, (inr differ, h.stops.4))
   stream_ended stream.CannotRead h =
       by_file borrowed refl (part_of stream.CannotRead h, h.text, h.between, h.split, h.has, h.appends, h.stops)
   stream_ended (stream.Out f) h =
@@ -515,16 +521,16 @@ output_given held c contents gives has =
     of_known held (files_of c) contents (λ x. HasOutput ((action_of c).task x) × IsToldStream held ((action_of c).task x)) gives
     (stream_known held c has)
 
--- the progress of a stream is that of a replay
+-- the progress of a stream is that of some number of parts
 stream_told : (held : Held) (out out' : Output) (c : CommandView) (contents : Contents (files_of c)) (before after : Output)
-    → IsStream ((action_of c).task contents)
-    → ReportsSome ((work_of held out out' c).verifies ⊎ (work_of held out out' c).replays) (work_of held out out' c) before after
-    → ReportsSome (work_of held out out' c).replays (work_of held out out' c) before after
-stream_told held out out' (command.Replay r) contents before after is (inl same) = inl same
-stream_told held out out' (command.Replay r) contents before after is (inr some) = inr (tt, some.1)
-stream_told held out out' (command.Each e) contents before after is (inl same) = inl same
-stream_told held out out' (command.Each e) contents before after is (inr (inl none, some)) = absurd none
-stream_told held out out' (command.Each e) contents before after is (inr (inr none, some)) = absurd none
+    → IsStream ((action_of c).task contents) → ReportsMemory (work_of held out out' c) before after
+    → ReportsPart (work_of held out out' c) before after
+stream_told held out out' (command.Replay r) contents before after is (inl bad) = absurd bad.0
+stream_told held out out' (command.Replay r) contents before after is (inr (inl none)) = absurd (none.0 tt)
+stream_told held out out' (command.Replay r) contents before after is (inr (inr part)) = part.1
+stream_told held out out' (command.Each e) contents before after is (inl bad) = absurd bad.0
+stream_told held out out' (command.Each e) contents before after is (inr (inl none)) = (0, none.1)
+stream_told held out out' (command.Each e) contents before after is (inr (inr bad)) = absurd bad.0
 stream_told held out out' (command.Check job listing progress) contents before after is told = absurd (of_check job listing contents is)
   where
     of_check : (job : List ℕ) (listing : Option (List ℕ)) (contents : Contents (check_action job listing).files)
@@ -532,6 +538,11 @@ stream_told held out out' (command.Check job listing progress) contents before a
     of_check job None contents is = is
     of_check job (Some listing) contents is = is
 stream_told held out out' _ contents before after is told = absurd is
+
+-- texts of a stream were printed, however many parts were reported
+stream_left : (t : Task) (done : ℕ) (before after : Output) → IsStream t → LeavesTexts t 0 before after → LeavesTexts t done before after
+stream_left (StatesOfStream o states job bytes) done before after is left = left
+stream_left _ done before after is left = absurd is
 
 -- ---- what was printed
 
@@ -620,31 +631,30 @@ module _ (words : List (List ℕ)) (held : Held) (requested requested' : Paths) 
 
   -- memory may run out where the output is unchanged, or after some texts of a stream
   out_of_memory : (c : CommandView) (contents : Contents (files_of c)) → IsCommand words c → AreHeld held (files_of c) contents
-      → requested' ≡ requested_by requested c
-      → ReportsSome ((work_of held out out' c).verifies ⊎ (work_of held out out' c).replays) (work_of held out out' c) err between
+      → requested' ≡ requested_by requested c → ReportsMemory (work_of held out out' c) err between
       → (out' ≡ out) ⊎ (IsStream ((action_of c).task contents) × LeavesTexts ((action_of c).task contents) 0 out out')
       → IsOutOfMemory words held requested requested' out out' err between
   out_of_memory c contents named gives all told (inl same) = inr (inl (same, inr (c, named, told)))
-  out_of_memory c contents named gives all told (inr (is, left)) = inl (
-    c,
-    named,
-    all,
-    (
-      0,
-      of_task held c contents (λ t. LeavesTexts t 0 out out') gives left,
-      inr (stream_told held out out' c contents err between is told),
-    ),
-  )
+  out_of_memory c contents named gives all told (inr (is, left)) =
+      let part = stream_told held out out' c contents err between is told in
+      let left' = stream_left ((action_of c).task contents) part.0 out out' is left in
+      inl (c, named, all, (part.0, of_task held c contents (λ t. LeavesTexts t part.0 out out') gives left', part.1))
+
+  -- no progress may have been printed, or the fault may be on the way
+  begins_or : {A : Type 0} (c : CommandView) (f : CommandFault A) → (out' ≡ out) ⊎ IsOnWay f
+      → IsUnbegun (work_of held out out' c) ⊎ IsOnWay f
+  begins_or c f (inl same) = inl (subst (λ o. IsUnbegun (work_of held out o c)) (sym same) (unbegun held out c))
+  begins_or c f (inr on_way) = inr on_way
 
   ends_task : {A : Type 0} (c : CommandView) (contents : Contents (files_of c)) (f : CommandFault A)
       → IsCommand words c → AreHeld held (files_of c) contents → requested' ≡ requested_by requested c
       → ReportsBefore (work_of held out out' c) err between f → IsEnded held ((action_of c).task contents) out out' f → Fails (status_of f)
-  ends_task c contents f named gives all told (by_data is rejects) = subst Fails (sym is) (
+  ends_task c contents f named gives all told (by_data is at rejects) = subst Fails (sym is) (
     c,
     named,
     of_task held c contents (λ t. RejectsData t out out') gives rejects,
     all,
-    told_data (work_of held out out' c) err between f is told,
+    told_data (work_of held out out' c) err between f (orderly held out out' c) is (begins_or c f at) told,
   )
   ends_task c contents f named gives all told (by_code is rejects same) =
       subst Fails (sym is)
@@ -663,7 +673,7 @@ module _ (words : List (List ℕ)) (held : Held) (requested requested' : Paths) 
   ends_task c contents f named gives all told (by_steps done is left) =
       let before = subst (ReportsBefore (work_of held out out' c) err between) is told in
       let read = of_task held c contents (λ t. LeavesTexts t done out out') gives left in
-      subst Fails (sym (ap status_of is)) (inl (c, named, all, (done, read, inl before)))
+      subst Fails (sym (ap status_of is)) (inl (c, named, all, (done, read, before)))
 
   ends_unread : {A : Type 0} (c : CommandView) (f : CommandFault A) → IsCommand words c → ReportsBefore (work_of held out out' c) err between f
       → out' ≡ out → HasNoFile f (LacksFile held c requested requested') → Fails (status_of f)
@@ -742,17 +752,17 @@ module _ (words : List (List ℕ)) (held : Held) (requested requested' : Paths) 
   memory_of status.Done h = absurd h
   memory_of status.RefusedData (c, named, rejects, all, still) =
       let read = gather held (files_of c) (λ x. RejectsData ((action_of c).task x) out out') rejects in
-      out_of_memory c read.0 named read.1 all (may_also _ _ (work_of held out out' c) err between inr still)
+      out_of_memory c read.0 named read.1 all (data_memory (work_of held out out' c) err between (orderly held out out' c) still)
       (rejected ((action_of c).task read.0) out out' read.2)
   memory_of status.CommandLine (misuse, still, same, quiet) = inr (inl (same, inl quiet))
-  memory_of status.RefusedKernel (c, named, rejects, all, same, told) =
-      inr (inl (same, inr (c, named, may_also _ _ (work_of held out out' c) err between inl told)))
+  memory_of status.RefusedKernel (c, named, rejects, all, same, inl quiet) = inr (inl (same, inl quiet))
+  memory_of status.RefusedKernel (c, named, rejects, all, same, inr part) = inr (inl (same, inr (c, named, inl part)))
   memory_of status.Memory h = h
   memory_of status.File (inl (c, named, lacks, same, quiet)) =
-      inr (inl (same, inr (c, named, may_also _ _ (work_of held out out' c) err between inr quiet)))
+      inr (inl (same, inr (c, named, read_memory (work_of held out out' c) err between (orderly held out out' c) quiet)))
   memory_of status.File (inr (inl (c, named, all, loses, quiet))) =
       let read = gather held (files_of c) (λ x. LosesStream held ((action_of c).task x) out out') loses in
-      out_of_memory c read.0 named read.1 all (may_also _ _ (work_of held out out' c) err between inr quiet)
+      out_of_memory c read.0 named read.1 all (read_memory (work_of held out out' c) err between (orderly held out out' c) quiet)
       (inr (lost held ((action_of c).task read.0) out out' read.2))
   memory_of status.File (inr (inr failed)) = inr (inr failed)
 

@@ -17,3 +17,4 @@ pub mod StreamLaws
 pub mod TypeLaws
 pub mod VerdictLaws
 pub mod WorkLaws
+pub mod WorkLines

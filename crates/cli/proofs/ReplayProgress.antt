@@ -1,23 +1,22 @@
 -- The progress of `replay`: its lines are those of the reports on its segments.
-use Rattle.std.proofs.Common.{◌≡◌, ◌⊎◌, ◌*◌, ◌++◌, ◌∷◌, ℕ, List, [], Bool, true, false, Ok, Err, Result, append-nil, arith, inl, inr, map, refl, subst, sym, IfSome}
+use Rattle.std.proofs.Common.{◌≡◌, ◌⊎◌, ◌∷◌, ℕ, List, [], Bool, true, false, Ok, Err, Result, inl, inr, map, refl, subst, sym}
 use Rattle.std.specs.Borrow.{Bor}
 use Rattle.std.specs.Result.{result_map_both}
 use Rattle.command_line.specs.Commands.{ReplayView}
 use Rattle.command_line.specs.Commands as command
-use Rattle.engine.specs.Engines.{IsOfState}
 use Rattle.engine.specs.declared.faults.InputFault.{InputFault}
 use Rattle.engine.specs.declared.faults.InputFault.TheVariants as input
 use Rattle.fallible.specs.Out.{Output}
 use Rattle.runs.specs.Watching.{Report}
 use Rattle.state.specs.Sources.{Left}
 use Rattle.streams.specs.Streams.{OfLeft}
-use Rattle.streams.specs.Watched.{AreAllWatched, AreWatchedBefore, AreWatchedTo, IsWatched}
+use Rattle.streams.specs.Watched.{AreAllWatched, AreFirstWatched, AreWatchedBefore, AreWatchedTo, AreWatchedUpTo, IsUnrun, IsWatched}
 use Rattle.streams.specs.declared.faults.StreamFault.{StreamFault}
 use Rattle.streams.specs.declared.faults.StreamFault.TheVariants as stream
-use Rattle.cli.specs.Actions.{Held, IsHeld, MayBegin, report_line, work_of}
-use Rattle.cli.specs.Command.{PrintsLines, ReportsAll, ReportsDone}
+use Rattle.cli.specs.Actions.{Held, IsHeld, MayBegin, OfReports, report_line, work_of}
+use Rattle.cli.specs.Command.{PrintsLines, ReportsAll}
 use Rattle.cli.specs.Failures.{fault_of_stream}
-use Rattle.cli.specs.Progress.{Reports, ReportsBefore, ReportsSteps}
+use Rattle.cli.specs.Progress.{Reports, ReportsBefore, ReportsState, ReportsSteps}
 use Rattle.cli.specs.StreamTexts.{plan_of_replay}
 use Rattle.cli.specs.declared.faults.CommandFault.{CommandFault}
 
@@ -42,19 +41,40 @@ module _ (held : Held) (r : ReplayView) (job : List ℕ) (known : IsHeld held r.
   whole bytes reports read are =
       printed r.progress (work_of held o o' (command.Replay r)).whole err err' reports (job, known, (bytes, read, (reports, are, refl)))
 
-  -- the reports up to some step
-  part : (bytes : List ℕ) (reports : List Report) (made : ℕ) (now : Output) → IsHeld held r.states bytes → MayBegin now o'
-      → AreWatchedTo (plan_of_replay r) job o bytes now made reports → ReportsSteps r.progress err err' reports
-      → ReportsDone (work_of held o o' (command.Replay r)) made err err'
-  part bytes reports made now read begins are =
-      printed r.progress ((work_of held o o' (command.Replay r)).part made) err err' reports
-      (job, known, (bytes, read, (reports, (now, begins, are), refl)))
+  -- reports of this stream, of which the statement holds
+  lines : (Are : (job bytes : List ℕ) → List Report → Type 0) (bytes : List ℕ) (reports : List Report) → IsHeld held r.states bytes
+      → Are job bytes reports → OfReports held r Are (map report_line reports)
+  lines Are bytes reports read are = (job, known, (bytes, read, (reports, are, refl)))
 
-  -- behind whole lines
-  behind : (bytes : List ℕ) (reports : List Report) (made : ℕ) → IsHeld held r.states bytes
-      → AreWatchedTo (plan_of_replay r) job o bytes o' made reports → ReportsSteps r.progress err err' reports
-      → ReportsDone (work_of held o o' (command.Replay r)) made err err'
-  behind bytes reports made read are = part bytes reports made o' read (inl refl) are
+  -- the reports behind whole lines of segments
+  behind : (bytes : List ℕ) (reports : List Report) → IsHeld held r.states bytes
+      → AreFirstWatched (plan_of_replay r) job o bytes o' reports
+      → (work_of held o o' (command.Replay r)).read (map report_line reports)
+  behind bytes reports read first =
+      lines (λ job bytes. AreFirstWatched (plan_of_replay r) job o bytes o') bytes reports read first
+
+  -- the reports of a whole segment more, whose line may be begun
+  before_line : (bytes : List ℕ) (reports : List Report) (now : Output) → IsHeld held r.states bytes → MayBegin now o'
+      → ((steps : ℕ) × AreWatchedUpTo (plan_of_replay r) job o bytes now steps steps reports)
+      → (work_of held o o' (command.Replay r)).texts (map report_line reports)
+  before_line bytes reports now read begins next = lines (λ job bytes reports. (now : Output) × MayBegin now o'
+      × ((steps : ℕ) × AreWatchedUpTo (plan_of_replay r) job o bytes now steps steps reports)) bytes reports read (now, begins, next)
+
+  -- the reports before a state is rejected
+  rejected : {A : Type 0} (bytes : List ℕ) (reports : List Report) (n : ℕ) (f : InputFault A) → IsHeld held r.states bytes
+      → (((n ≡ 1) ⊎ IsUnrun f) × AreFirstWatched (plan_of_replay r) job o bytes o' reports)
+      ⊎ ((steps : ℕ) × AreWatchedUpTo (plan_of_replay r) job o bytes o' steps steps reports)
+      → ReportsSteps r.progress err err' reports → ReportsState (work_of held o o' (command.Replay r)) err err' n f
+  rejected bytes reports n f read are told =
+      let replay = work_of held o o' (command.Replay r) in
+      inr (tt, printed r.progress (λ x. (((n ≡ 1) ⊎ IsUnrun f) × replay.read x) ⊎ replay.texts x) err err' reports (by_run are) told)
+    where
+      by_run : (((n ≡ 1) ⊎ IsUnrun f) × AreFirstWatched (plan_of_replay r) job o bytes o' reports)
+          ⊎ ((steps : ℕ) × AreWatchedUpTo (plan_of_replay r) job o bytes o' steps steps reports)
+          → (((n ≡ 1) ⊎ IsUnrun f) × (work_of held o o' (command.Replay r)).read (map report_line reports))
+          ⊎ (work_of held o o' (command.Replay r)).texts (map report_line reports)
+      by_run (inl (unrun, first)) = inl (unrun, behind bytes reports read first)
+      by_run (inr next) = inr (before_line bytes reports o' read (inl refl) next)
 
   -- the reports before a fault
   before_fault : {A : Type 0} (path : Bor (List ℕ)) (bytes : List ℕ) (reports : List Report) (f : StreamFault (InputFault A))
@@ -68,28 +88,24 @@ module _ (held : Held) (r : ReplayView) (job : List ℕ) (known : IsHeld held r.
   before_fault path bytes reports (stream.Rejected input.ForceRange) read (still, none) told = nothing r.progress err err' reports none told
   before_fault path bytes reports (stream.State n (input.Job f)) read (bad, are) told = absurd bad
   before_fault path bytes reports (stream.State n (input.Energy f)) read (bad, are) told = absurd bad
-  before_fault path bytes reports (stream.State n (input.State f)) read (is, inl first) told =
-      inr (tt, (0, behind bytes reports 0 read (inl first) told))
-  before_fault path bytes reports (stream.State n (input.State f)) read (is, inr (steps, next)) told =
-      inr (tt, (steps, behind bytes reports steps read (inr (steps, next)) told))
-  before_fault path bytes reports (stream.State n (input.System f)) read (is, inl first) told =
-      inr (tt, (0, behind bytes reports 0 read (inl first) told))
-  before_fault path bytes reports (stream.State n (input.System f)) read (is, inr (steps, next)) told =
-      inr (tt, (steps, behind bytes reports steps read (inr (steps, next)) told))
-  before_fault path bytes reports (stream.State n input.ForceRange) read (is, inl first) told =
-      inr (tt, (0, behind bytes reports 0 read (inl first) told))
-  before_fault path bytes reports (stream.State n input.ForceRange) read (is, inr (steps, next)) told =
-      inr (tt, (steps, behind bytes reports steps read (inr (steps, next)) told))
-  before_fault path bytes reports (stream.Differ n) read (count, differing, last, are) told =
-      inr (tt, (0, behind bytes reports 0 read (inl (inr (count, differing, bytes, [], last, sym (append-nil bytes), are))) told))
-  before_fault path bytes reports stream.CannotRead read first told = inr (tt, (0, behind bytes reports 0 read (inl first) told))
-  before_fault path bytes reports (stream.Out f) read (now, line, begins, (steps, next)) told =
-      let one : steps ≡ steps * 1 = omega arith in (
-        steps,
-        subst (λ k. ReportsDone (work_of held o o' (command.Replay r)) k err err') one
-            (part bytes reports steps now read (inr (line, begins)) (inr (steps, next)) told),
-      )
-  before_fault path bytes reports stream.Memory read (made, are) told = inr (inr tt, (made, behind bytes reports made read are told))
+  before_fault {A} path bytes reports (stream.State n (input.State f)) read (is, are) told =
+      rejected {A = A} bytes reports n (input.State f) read are told
+  before_fault {A} path bytes reports (stream.State n (input.System f)) read (is, are) told =
+      rejected {A = A} bytes reports n (input.System f) read are told
+  before_fault {A} path bytes reports (stream.State n input.ForceRange) read (is, are) told =
+      rejected {A = A} bytes reports n input.ForceRange read are told
+  before_fault path bytes reports (stream.Differ n) read all told = inr (tt, whole bytes reports read all told)
+  before_fault path bytes reports stream.CannotRead read first told =
+      let replay = work_of held o o' (command.Replay r) in
+      inr (tt, printed r.progress replay.read err err' reports (behind bytes reports read first) told)
+  before_fault path bytes reports (stream.Out f) read (now, line, begins, next) told =
+      let replay = work_of held o o' (command.Replay r) in
+      printed r.progress replay.texts err err' reports (before_line bytes reports now read (inr (line, begins)) next) told
+  before_fault path bytes reports stream.Memory read (made, are) told =
+      let replay = work_of held o o' (command.Replay r) in
+      let some = lines (λ job bytes reports. (now : Output) × MayBegin now o'
+      × AreWatchedTo (plan_of_replay r) job o bytes now made reports) bytes reports read (o', inl refl, are) in
+      inr (inr (tt, (made, printed r.progress (replay.part made) err err' reports some told)))
 
   -- The reports of a replay of a stream are the progress of the command.
   pub replay_reports : {T A : Type 0} (wrote : Result T (StreamFault (InputFault A))) (result : Result T (CommandFault A)) (left : Left)

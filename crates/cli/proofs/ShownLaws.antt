@@ -27,7 +27,7 @@ use Rattle.cli.specs.Performed.{Performs, PrintsShown, ShowsFiles, StopsShown}
 use Rattle.cli.specs.Progress.{Reports, ReportsBefore, ReportsSteps}
 use Rattle.cli.specs.Refusals.{IsRunUndone, IsTaskUndone}
 use Rattle.cli.specs.declared.faults.CommandFault.{CommandFault}
-use Rattle.cli.proofs.ProgressLaws.{files_told, whole_told}
+use Rattle.cli.proofs.ProgressLaws.{files_told, lines_also, whole_told}
 
 -- ---- standard output
 
@@ -130,7 +130,7 @@ steps_told false IsText plan count done out out' before after few h = h.told'
 -- Progress up to any text of a plan is the progress of the work if its output fails.
 abbrev ReportsToText : Work → PlanView → (before after : Output) → Type 0
 ReportsToText work plan before after = (count : ℕ) → count ≤ last_text plan
-    → ReportsDone work (steps_to plan count) before after → ReportsTexts work.every work before after
+    → ReportsDone work (steps_to plan count) before after → ReportsTexts work before after
 
 -- the progress before the fault of a run, whose work has the steps of the plan
 stops_told : {A : Type 0} (Shows : Showing) (job state : List ℕ) (progress : Bool) (plan : PlanView) (every : Option ℕ) (n : ℕ)
@@ -149,7 +149,7 @@ stops_told Shows job state progress plan every n out out' err err' (run.Rejected
 stops_told Shows job state progress plan every n out out' err err' (run.Rejected input.ForceRange) made texts h =
     nothing progress err err' h.2
 stops_told Shows job state progress plan every n out out' err err' run.Memory made texts h =
-    inl (nothing progress err err' h.2)
+    inr (inl (λ x. x, nothing progress err err' h.2))
 stops_told Shows job state progress plan every n out out' err err' (run.Steps step.StepRange) made texts h =
     nothing progress err err' h.2
 stops_told Shows job state progress plan every n out out' err err' (run.Steps (step.Memory done)) made texts h =
@@ -178,7 +178,7 @@ reports_shown (Ok x) held requested requested' job state Shows progress plan eve
     (steps_told progress _ plan (suc (last_text plan)) (steps_made plan) out out' err err' most h.2))
 reports_shown (Err f) held requested requested' job state Shows progress plan every n out out' err err' made texts (inl h) =
     subst (λ o. ReportsBefore (steps_work progress n every) err o f) (sym h.1.1)
-    (files_told held (steps_work progress n every) err (job ∷ state ∷ []) requested requested' f h.0)
+    (files_told held (steps_work progress n every) err (job ∷ state ∷ []) requested requested' f (inl (λ x. x)) h.0)
 reports_shown (Err f) held requested requested' job state Shows progress plan every n out out' err err' made texts
     (inr (all, (a, known, (b, known', h)))) =
     subst (ReportsBefore (steps_work progress n every) err err') (sym h.1)
@@ -219,4 +219,5 @@ reports_visits r held requested requested' Shows v out out' err err' h =
     texts : ReportsToText (visits_work v) (plan_of v) err err'
     texts count few told =
         let same : steps_to (plan_of v) count ≡ count * v.every = zero-add (count * v.every) in
-        (count, subst (λ (k : ℕ). ReportsDone (visits_work v) k err err') same told)
+        lines_also v.run.progress ((visits_work v).part (count * v.every)) (visits_work v).texts err err' (λ lines h. (count, h))
+        (subst (λ (k : ℕ). ReportsDone (visits_work v) k err err') same told)

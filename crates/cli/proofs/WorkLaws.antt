@@ -1,5 +1,5 @@
 -- Laws of the progress of `check` and `curve`: the lines of a work of parts are those of the command.
-use Rattle.std.proofs.Common.{◌≡◌, ◌⊎◌, ◌≤◌, ℕ, List, Bool, true, false, arith, inl, inr, map, refl, subst, sym, IfErr, OnOk, Result, Ok, Err, codes}
+use Rattle.std.proofs.Common.{◌≡◌, ◌≤◌, ℕ, List, Bool, true, false, arith, inl, inr, map, refl, subst, sym, IfErr, OnOk, Result, Ok, Err, codes}
 use Rattle.std.specs.Result.{result_map_both}
 use Rattle.command_line.specs.Commands.{CurveView}
 use Rattle.command_line.specs.Commands as command
@@ -18,16 +18,16 @@ use Rattle.potential.specs.Progress.{IsPassedBefore}
 use Rattle.potential.specs.declared.faults.EnergyFault.{EnergyFault}
 use Rattle.potential.specs.declared.faults.EnergyFault.TheVariants as energy
 use Rattle.runs.specs.Watching.{hundredths, hundredths_behind}
-use Rattle.cli.specs.Actions.{AreCurveParts, AreSlices, Held, IsHeld, OfFile, Work, check_work, curve_work, parts_work, progress_line}
+use Rattle.cli.specs.Actions.{AreCurveParts, AreSlices, Held, IsHeld, OfFile, check_work, curve_work, parts_work, progress_line}
 use Rattle.cli.specs.Command.{ReportsAll}
-use Rattle.cli.specs.CommandFailure.{ReportsSome}
+use Rattle.cli.specs.CommandFailure.{ReportsCode, ReportsReplayed}
 use Rattle.cli.specs.Failures.{command_fault}
 use Rattle.cli.specs.Performed.{WritesLine}
 use Rattle.cli.specs.Progress.{Passes, Reports, ReportsBefore, ReportsIf, ReportsParts, word_for}
 use Rattle.cli.specs.declared.faults.CommandFault.{CommandFault}
 use Rattle.cli.specs.declared.faults.CommandFault.TheVariants as fault
 use Rattle.cli.specs.declared.progress.Counted.{Counted}
-use Rattle.cli.proofs.ProgressLaws.{all_parts, may_also, part_also, whole_also}
+use Rattle.cli.proofs.ProgressLaws.{all_parts, part_also, whole_also}
 
 -- ---- lines of a watcher
 
@@ -40,7 +40,7 @@ whole_printed false word IsAll all before after is told = told
 -- the lines of the hundredths among the first parts are the progress lines of these parts
 pub part_printed : (progress : Bool) (word : List ℕ) (IsAll : ℕ → Type 0) (all done : ℕ) (before after : Output) → IsAll all → done ≤ all
     → ReportsIf progress word all before after (hundredths_behind all 0 done)
-    → ReportsSome (Unit {0}) (parts_work progress word IsAll) before after
+    → ReportsCode (parts_work progress word IsAll) before after
 part_printed true word IsAll all done before after is few told =
     inr (tt, (done, (map (progress_line word all) (hundredths_behind all 0 done), (all, is, few, refl), told)))
 part_printed false word IsAll all done before after is few told = inl told
@@ -86,37 +86,42 @@ stopped_within (Err f) j plan Passed (n, after, h) = (n, stopped_few j plan f n 
 -- ---- faults
 
 -- the progress before a failed call that rejects an energy or its code
-pub energy_told : {A : Type 0} (work : Work) (before after : Output) (failure : Failure (EnergyFault A))
-    → ReportsSome work.verifies work before after
-    → ReportsBefore work before after (command_fault (λ f. fault.Rejected (input.Energy f)) failure)
-energy_told work before after (Refused f) h = h
-energy_told work before after Memory h = may_also work.verifies (work.verifies ⊎ work.replays) work before after inl h
+pub energy_told : {A : Type 0} (progress : Bool) (word : List ℕ) (IsAll : ℕ → Type 0) (before after : Output)
+    (failure : Failure (EnergyFault A))
+    → ReportsCode (parts_work progress word IsAll) before after
+    → ReportsBefore (parts_work progress word IsAll) before after (command_fault (λ f. fault.Rejected (input.Energy f)) failure)
+energy_told progress word IsAll before after (Refused f) h = h
+energy_told progress word IsAll before after Memory (inl same) = inr (inl (λ x. x, same))
+energy_told progress word IsAll before after Memory (inr part) = inl part
 
-some_also : (May : Type 0) (progress : Bool) (word : List ℕ) (IsAll IsAll' : ℕ → Type 0) (before after : Output)
-    → ((all : ℕ) → IsAll all → IsAll' all) → ReportsSome May (parts_work progress word IsAll) before after
-    → ReportsSome May (parts_work progress word IsAll') before after
-some_also May progress word IsAll IsAll' before after also (inl same) = inl same
-some_also May progress word IsAll IsAll' before after also (inr (may, (done, h))) =
-    inr (may, (done, part_also progress word IsAll IsAll' done before after also h))
+-- a work that verifies code replays no stream
+not_replayed : (progress : Bool) (word : List ℕ) (IsAll IsAll' : ℕ → Type 0) (before after : Output) (Printed Printed' : Type 0)
+    → ReportsReplayed (parts_work progress word IsAll) before after Printed
+    → ReportsReplayed (parts_work progress word IsAll') before after Printed'
+not_replayed progress word IsAll IsAll' before after Printed Printed' (inl none) = inl none
+not_replayed progress word IsAll IsAll' before after Printed Printed' (inr bad) = absurd bad.0
 
 before_also : {A : Type 0} (progress : Bool) (word : List ℕ) (IsAll IsAll' : ℕ → Type 0) (before after : Output) (f : CommandFault A)
     → ((all : ℕ) → IsAll all → IsAll' all) → ReportsBefore (parts_work progress word IsAll) before after f
     → ReportsBefore (parts_work progress word IsAll') before after f
 before_also progress word IsAll IsAll' before after (fault.Out o) also h = whole_also progress word IsAll IsAll' before after also h
-before_also progress word IsAll IsAll' before after (fault.Rejected (input.Energy f)) also h =
-    some_also (Unit {0}) progress word IsAll IsAll' before after also h
-before_also progress word IsAll IsAll' before after fault.Memory also h =
-    some_also (Unit {0} ⊎ ⊥) progress word IsAll IsAll' before after also h
-before_also progress word IsAll IsAll' before after (fault.CannotRead path) also h = some_also ⊥ progress word IsAll IsAll' before after also h
+before_also progress word IsAll IsAll' before after (fault.Rejected (input.Energy f)) also (inl same) = inl same
+before_also progress word IsAll IsAll' before after (fault.Rejected (input.Energy f)) also (inr (verifies, (done, h))) =
+    inr (verifies, (done, part_also progress word IsAll IsAll' done before after also h))
+before_also progress word IsAll IsAll' before after fault.Memory also (inl (verifies, (done, h))) =
+    inl (verifies, (done, part_also progress word IsAll IsAll' done before after also h))
+before_also progress word IsAll IsAll' before after fault.Memory also (inr h) =
+    inr (not_replayed progress word IsAll IsAll' before after _ _ h)
+before_also progress word IsAll IsAll' before after (fault.CannotRead path) also h = not_replayed progress word IsAll IsAll' before after _ _ h
 before_also progress word IsAll IsAll' before after (fault.InState n (input.Job f)) also h =
-    some_also ⊥ progress word IsAll IsAll' before after also h
+    not_replayed progress word IsAll IsAll' before after _ _ h
 before_also progress word IsAll IsAll' before after (fault.InState n (input.State f)) also h =
-    some_also ⊥ progress word IsAll IsAll' before after also h
+    not_replayed progress word IsAll IsAll' before after _ _ h
 before_also progress word IsAll IsAll' before after (fault.InState n (input.System f)) also h =
-    some_also ⊥ progress word IsAll IsAll' before after also h
+    not_replayed progress word IsAll IsAll' before after _ _ h
 before_also progress word IsAll IsAll' before after (fault.InState n input.ForceRange) also h =
-    some_also ⊥ progress word IsAll IsAll' before after also h
-before_also progress word IsAll IsAll' before after (fault.NotOneRun n) also h = some_also ⊥ progress word IsAll IsAll' before after also h
+    not_replayed progress word IsAll IsAll' before after _ _ h
+before_also progress word IsAll IsAll' before after (fault.NotOneRun n) also h = not_replayed progress word IsAll IsAll' before after _ _ h
 before_also progress word IsAll IsAll' before after (fault.Steps (step.Memory done)) also h =
     part_also progress word IsAll IsAll' done before after also h
 before_also progress word IsAll IsAll' before after _ also h = h
@@ -138,7 +143,7 @@ pub line_told : {T A : Type 0} (r : Result T (CommandFault A)) (progress : Bool)
 line_told (Ok x) progress word IsAll before after text out out' whole h = whole
 line_told (Err f) progress word IsAll before after text out out' whole (inl (is, same)) =
     subst (ReportsBefore (parts_work progress word IsAll) before after) (sym is)
-    (inr (inl tt, all_parts progress word IsAll before after whole))
+    (inl (tt, all_parts progress word IsAll before after whole))
 line_told (Err f) progress word IsAll before after text out out' whole (inr (o, is, begun)) =
     subst (ReportsBefore (parts_work progress word IsAll) before after) (sym is) whole
 

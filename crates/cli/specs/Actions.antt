@@ -21,7 +21,7 @@ use Rattle.runs.specs.WholeStates.{ShowsState}
 use Rattle.cli.specs.CurveTexts.{IsPlanOf}
 use Rattle.streams.specs.Replays.{replayed_by}
 use Rattle.streams.specs.Streams.{StreamOutput, shown_by}
-use Rattle.streams.specs.Watched.{AreAllWatched, AreWatchedTo}
+use Rattle.streams.specs.Watched.{AreAllWatched, AreFirstWatched, AreWatchedTo, AreWatchedUpTo}
 use Rattle.cli.specs.StreamTexts.{columns_of, plan_of_replay, shows_of}
 
 -- ---- files
@@ -201,24 +201,32 @@ abbrev pub FirstLines : (word : List ℕ) → (IsAll : ℕ → Type 0) → (done
 FirstLines word IsAll done lines =
     (all : ℕ) × IsAll all × (done ≤ all) × (lines ≡ map (progress_line word all) (hundredths_behind all 0 done))
 
--- The work of a command, whose progress it may report: whether it does; which are all its progress lines, and which
--- those of its first `done` parts; the number k of steps from one text to the next, if it prints several texts; whether
--- it verifies code; and whether it replays a stream.
+-- The work of a command, whose progress it may report: whether it does; which are all its progress lines; which those of
+-- its first `done` parts; which those before the write of a text of its output; which those before a state of a stream is
+-- read; whether it verifies code; and whether it replays a stream.
 pub record Work : Type 1 where
   pub progress : Bool
   pub whole : (lines : List (List ℕ)) → Type 0
   pub part : (done : ℕ) → (lines : List (List ℕ)) → Type 0
-  pub every : Option ℕ
+  pub texts : (lines : List (List ℕ)) → Type 0
+  pub read : (lines : List (List ℕ)) → Type 0
   pub verifies : Type 0
   pub replays : Type 0
 
--- the work of a run of n steps
+-- The progress lines of a run of n steps before it writes a text: those of all steps, or with a text every k steps those
+-- of the steps up to some text.
+abbrev pub TextLines : (every : Option ℕ) → (n : ℕ) → (lines : List (List ℕ)) → Type 0
+TextLines None n = AllLines (codes "steps") (λ all. all ≡ n)
+TextLines (Some k) n = λ lines. (count : ℕ) × FirstLines (codes "steps") (λ all. all ≡ n) (count * k) lines
+
+-- the work of a run of n steps, with a text every k steps or only after the last
 abbrev pub steps_work : (progress : Bool) → (n : ℕ) → (every : Option ℕ) → Work
 steps_work progress n every = record {
   progress = progress;
   whole = AllLines (codes "steps") (λ all. all ≡ n);
   part = FirstLines (codes "steps") (λ all. all ≡ n);
-  every = every;
+  texts = TextLines every n;
+  read = λ lines. lines ≡ [];
   verifies = ⊥;
   replays = ⊥;
 }
@@ -233,7 +241,8 @@ parts_work progress word AreAll = record {
   progress = progress;
   whole = AllLines word AreAll;
   part = FirstLines word AreAll;
-  every = None;
+  texts = AllLines word AreAll;
+  read = λ lines. lines ≡ [];
   verifies = Unit {0};
   replays = ⊥;
 }
@@ -252,15 +261,19 @@ abbrev pub MayBegin : (before after : Output) → Type 0
 MayBegin before after = (after ≡ before) ⊎ ((line : List ℕ) × AppendsBeginning before after line)
 
 -- The work of `replay`, whose standard output was `out`, and is `out'`: the hundredths of each replayed segment, one
--- segment after another. Its first `done` parts are the segments whose lines were printed, or these and the first `done`
--- steps of the next segment; a line of the output may follow any step.
+-- segment after another.
+-- - `part`: of the segments whose lines were printed, or of these and of the first `done` steps of the next segment;
+-- - `texts`: of the segments whose lines were printed, and of the whole next segment, whose line may be begun;
+-- - `read`: of the segments whose lines were printed.
 abbrev pub replay_work : Held → (out out' : Output) → ReplayView → Work
 replay_work held out out' r = record {
   progress = r.progress;
   whole = OfReports held r (λ job bytes. AreAllWatched (plan_of_replay r) job out bytes out');
   part = λ done. OfReports held r (λ job bytes reports.
       (now : Output) × MayBegin now out' × AreWatchedTo (plan_of_replay r) job out bytes now done reports);
-  every = Some 1;
+  texts = OfReports held r (λ job bytes reports. (now : Output) × MayBegin now out'
+      × ((steps : ℕ) × AreWatchedUpTo (plan_of_replay r) job out bytes now steps steps reports));
+  read = OfReports held r (λ job bytes. AreFirstWatched (plan_of_replay r) job out bytes out');
   verifies = ⊥;
   replays = Unit {0};
 }

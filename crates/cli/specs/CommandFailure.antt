@@ -4,7 +4,7 @@
 --
 -- Names. Paths, files and outputs are named as in the first half. `between` is standard error before the text of the
 -- error: with the progress lines, if any, that came before.
-use Rattle.std.specs.Prelude.{◌≡◌, ◌≢◌, ◌⊎◌, ◌<◌, ◌≤◌, ◌-◌, ◌^◌, ◌*◌, ℕ, Bool, List, [], length, Option, Some, None, Err}
+use Rattle.std.specs.Prelude.{◌≡◌, ◌≢◌, ◌⊎◌, ◌<◌, ◌≤◌, ◌-◌, ◌^◌, ℕ, Bool, List, [], length, Option, Some, None, Err}
 use Rattle.command_line.specs.Commands.{CommandView}
 use Rattle.command_line.specs.CommandLine.{AsksForHelp, AsksForVersion, IsCommand, IsMisuse}
 use Rattle.energy_program.specs.Faults.{Refusal}
@@ -34,7 +34,7 @@ use Rattle.verifier.specs.declared.faults.VerifyFault.{VerifyFault}
 use Rattle.state.specs.Sources.{StartsNoState}
 use Rattle.streams.specs.Streams.{OfFirst}
 use Rattle.cli.specs.Actions.{CodeText, CurveText, EndOfRun, Explanation, FrameText, Held, ListingVerdict, OfJob, OfTask, OneText, Paths, QuantityText, SlopeVerdict, StartText, StatesOfRun, StatesOfStream, Task, Text, UpTo, Work, also_requested, requested_by, files_of, work_of}
-use Rattle.cli.specs.Command.{Any, HasText, IsSaid, PrintsIfCounted, ReportsAll, ReportsDone, plan_of, version_line}
+use Rattle.cli.specs.Command.{Any, HasText, IsSaid, PrintsIfCounted, PrintsLines, ReportsDone, plan_of, version_line}
 use Rattle.cli.specs.Conversions.{IsStartText, listed_code_of}
 use Rattle.cli.specs.CurveTexts.{HasPair, LacksPair}
 use Rattle.cli.specs.StreamTexts.{BeginsNext, PrintsFirst, StreamPart}
@@ -210,17 +210,38 @@ BeginsWish words before after = (AsksForHelp words × BeginsSome before after)
 
 -- ---- progress before an error
 
--- Progress lines before a write that failed: all of them if the output follows the last part of the work; otherwise,
--- with a text every k steps, the lines for the steps up to some text.
-abbrev pub ReportsTexts : (every : Option ℕ) → Work → (before after : Output) → Type 0
-ReportsTexts None work before after = ReportsAll work before after
-ReportsTexts (Some k) work before after = (count : ℕ) × ReportsDone work (count * k) before after
+-- Progress lines before a write that failed: those before the write of some text (`Work.texts`).
+abbrev pub ReportsTexts : Work → (before after : Output) → Type 0
+ReportsTexts work before after = PrintsLines work.progress work.texts before after
 
--- Progress lines before an error in a work that `May` have some then, such as that of `check`, `curve` (`verifies`) or
--- `replay` (`replays`): those of some number of parts, which in a replay match standard output (`replay_work`). The other
--- commands printed none.
-abbrev pub ReportsSome : (May : Type 0) → Work → (before after : Output) → Type 0
-ReportsSome May work before after = (after ≡ before) ⊎ (May × ((done : ℕ) × ReportsDone work done before after))
+-- the progress lines of some number of parts
+abbrev pub ReportsPart : Work → (before after : Output) → Type 0
+ReportsPart work before after = (done : ℕ) × ReportsDone work done before after
+
+-- Progress lines before code is rejected: of a work that verifies code, such as that of `check` or `curve`, those of some
+-- number of parts, or none. The other commands printed none.
+abbrev pub ReportsCode : Work → (before after : Output) → Type 0
+ReportsCode work before after = (after ≡ before) ⊎ (work.verifies × ReportsPart work before after)
+
+-- In a work that replays a stream, `Printed` holds of its progress lines. The other commands printed none.
+abbrev pub ReportsReplayed : Work → (before after : Output) → (Printed : Type 0) → Type 0
+ReportsReplayed work before after Printed = ((work.replays → ⊥) × (after ≡ before)) ⊎ (work.replays × Printed)
+
+-- Progress lines before data are rejected: of a replay, those before a state is read, or those before the line of the
+-- segment to it. A replay whose standard output has lines can't have dropped their progress.
+abbrev pub ReportsData : Work → (before after : Output) → Type 0
+ReportsData work before after =
+    ReportsReplayed work before after (PrintsLines work.progress (λ lines. work.read lines ⊎ work.texts lines) before after)
+
+-- progress lines before a file can't be read: of a replay, those before a state is read
+abbrev pub ReportsRead : Work → (before after : Output) → Type 0
+ReportsRead work before after = ReportsReplayed work before after (PrintsLines work.progress work.read before after)
+
+-- Progress lines before memory runs out in a work that counts no steps: of one that verifies code, those of some number
+-- of parts, or none; of a replay, those of some number of parts.
+abbrev pub ReportsMemory : Work → (before after : Output) → Type 0
+ReportsMemory work before after = (work.verifies × ReportsPart work before after)
+    ⊎ ReportsReplayed work before after (ReportsPart work before after)
 
 -- ---- the five failures
 
@@ -230,7 +251,7 @@ module _ (words : List (List ℕ)) (held : Held) (requested requested' : Paths) 
   -- The command requested all its files, and rejects their data. It printed no progress, except of a replayed stream.
   abbrev pub IsRejected : Type 0
   IsRejected = (c : CommandView) × IsCommand words c × OfTask held c (λ task. RejectsData task out out')
-      × (requested' ≡ requested_by requested c) × ReportsSome (work_of held out out' c).replays (work_of held out out' c) err between
+      × (requested' ≡ requested_by requested c) × ReportsData (work_of held out out' c) err between
 
   -- The arguments name no command. No file was requested, and nothing printed.
   abbrev pub IsMisused : Type 0
@@ -239,24 +260,21 @@ module _ (words : List (List ℕ)) (held : Held) (requested requested' : Paths) 
   -- The command requested all its files, and rejects code. Only progress lines were printed.
   abbrev pub IsCodeRejected : Type 0
   IsCodeRejected = (c : CommandView) × IsCommand words c × OfTask held c RejectsCode
-      × (requested' ≡ requested_by requested c) × (out' ≡ out)
-      × ReportsSome (work_of held out out' c).verifies (work_of held out out' c) err between
+      × (requested' ≡ requested_by requested c) × (out' ≡ out) × ReportsCode (work_of held out out' c) err between
 
   -- A write to standard output failed: in a command, or in the text of the help or the version.
   abbrev pub IsOutputFailed : Type 0
   IsOutputFailed = (BeginsWish words out out' × (requested' ≡ requested) × (between ≡ err))
       ⊎ ((c : CommandView) × IsCommand words c × (requested' ≡ requested_by requested c) × OfTask held c (λ task. BeginsOutput task out out')
-      × ReportsTexts (work_of held out out' c).every (work_of held out out' c) err between)
+      × ReportsTexts (work_of held out out' c) err between)
 
   -- Memory ran out: after some steps of a run or of a replay; or in the work of `check` or `curve`; or before any step and
   -- any output; or for the text of another error, of which a failed write has left a prefix of the output.
   abbrev pub IsOutOfMemory : Type 0
   IsOutOfMemory = ((c : CommandView) × IsCommand words c × (requested' ≡ requested_by requested c)
-      × ((done : ℕ) × OfTask held c (λ task. LeavesTexts task done out out')
-      × (ReportsDone (work_of held out out' c) done err between
-      ⊎ ReportsSome (work_of held out out' c).replays (work_of held out out' c) err between)))
-      ⊎ ((out' ≡ out) × ((between ≡ err) ⊎ ((c : CommandView) × IsCommand words c
-      × ReportsSome ((work_of held out out' c).verifies ⊎ (work_of held out out' c).replays) (work_of held out out' c) err between)))
+      × ((done : ℕ) × OfTask held c (λ task. LeavesTexts task done out out') × ReportsDone (work_of held out out' c) done err between))
+      ⊎ ((out' ≡ out) × ((between ≡ err)
+      ⊎ ((c : CommandView) × IsCommand words c × ReportsMemory (work_of held out out' c) err between)))
       ⊎ IsOutputFailed
 
   -- A file of the command can't be read, and nothing was printed; or a stream can't be read on, behind the texts of the
@@ -264,10 +282,9 @@ module _ (words : List (List ℕ)) (held : Held) (requested requested' : Paths) 
   -- that can't be read on are unknown, so this page can't tell it from a file that can't be read.
   abbrev pub IsFileFailed : Type 0
   IsFileFailed = ((c : CommandView) × IsCommand words c × LacksFile held c requested requested' × (out' ≡ out)
-      × ReportsSome (work_of held out out' c).replays (work_of held out out' c) err between)
+      × ReportsRead (work_of held out out' c) err between)
       ⊎ ((c : CommandView) × IsCommand words c × (requested' ≡ requested_by requested c)
-      × OfTask held c (λ task. LosesStream held task out out')
-      × ReportsSome (work_of held out out' c).replays (work_of held out out' c) err between)
+      × OfTask held c (λ task. LosesStream held task out out') × ReportsRead (work_of held out out' c) err between)
       ⊎ IsOutputFailed
 
 -- How the program fails, by its exit status. The text of the error was printed after the progress lines, as far as

@@ -3,17 +3,19 @@ use Rattle.std.specs.Prelude.{◌≡◌, ◌⊎◌, ◌+◌, ◌≤◌, ℕ, Lis
 use Rattle.std.proofs.Common.{arith, refl, subst, sym}
 use Rattle.std.proofs.lemmas.List.{map-append}
 use Rattle.std.specs.Result.{MatchResult}
+use Rattle.engine.specs.declared.faults.InputFault.{InputFault}
 use Rattle.engine.specs.declared.faults.InputFault.TheVariants as input
 use Rattle.fallible.specs.Out.{Output}
 use Rattle.integrator.specs.declared.faults.StepFault.TheVariants as step
 use Rattle.command_line.specs.Commands.{CommandView}
 use Rattle.command_line.specs.CommandLine.{IsCommand}
 use Rattle.cli.specs.Actions.{Held, Work, report_line, work_of}
-use Rattle.cli.specs.Command.{PrintsEach, PrintsIfCounted, PrintsProgress, ReportsAll, ReportsDone}
-use Rattle.cli.specs.CommandFailure.{ReportsSome, ReportsTexts}
+use Rattle.cli.specs.Command.{PrintsEach, PrintsIfCounted, PrintsLines, PrintsProgress, ReportsAll, ReportsDone}
+use Rattle.cli.specs.CommandFailure.{ReportsCode, ReportsMemory, ReportsRead, ReportsReplayed, ReportsTexts}
 use Rattle.cli.specs.Reports.{IsReported}
 use Rattle.runs.specs.Watching.{Report, hundredths, hundredths_behind}
 use Rattle.runs.proofs.HundredthLaws.{hundredths-add, hundredths-zero}
+use Rattle.streams.specs.Watched.{IsUnrun}
 use Rattle.cli.specs.declared.faults.CommandFault.{CommandFault}
 use Rattle.cli.specs.declared.faults.CommandFault.TheVariants as fault
 use Rattle.cli.specs.declared.progress.Counted.{Counted}
@@ -21,18 +23,25 @@ use Rattle.cli.specs.declared.progress.Counted.TheVariants as counted
 
 -- ---- before a fault
 
+-- Progress lines before the state with this number, from 1, is rejected with this fault: of a replay, those before the line
+-- of the segment to it. If it is the first state, or is rejected before its segment is run, they are those before a state
+-- is read.
+abbrev pub ReportsState : {A : Type 0} → Work → (before after : Output) → (number : ℕ) → InputFault A → Type 0
+ReportsState work before after number f = ReportsReplayed work before after
+    (PrintsLines work.progress (λ lines. (((number ≡ 1) ⊎ IsUnrun f) × work.read lines) ⊎ work.texts lines) before after)
+
 -- Progress lines of a work before this fault. If memory ran out after some steps, the output failed, code was rejected,
--- or a stream ended with a fault, the lines are as the command specification says. Before any other fault the output is
--- unchanged.
+-- or a stream can't be read on, the lines are as the command specification says. A stream that isn't of one run ends after
+-- all lines of its replay. Before any other fault, except of a state of a stream, the output is unchanged.
 abbrev pub ReportsBefore : {A : Type 0} → Work → (before after : Output) → CommandFault A → Type 0
 ReportsBefore work before after (fault.Steps (step.Memory done)) = ReportsDone work done before after
-ReportsBefore work before after (fault.Out o) = ReportsTexts work.every work before after
-ReportsBefore work before after (fault.Rejected (input.Energy f)) = ReportsSome work.verifies work before after
-ReportsBefore work before after fault.Memory = ReportsSome (work.verifies ⊎ work.replays) work before after
-ReportsBefore work before after (fault.CannotRead path) = ReportsSome work.replays work before after
+ReportsBefore work before after (fault.Out o) = ReportsTexts work before after
+ReportsBefore work before after (fault.Rejected (input.Energy f)) = ReportsCode work before after
+ReportsBefore work before after fault.Memory = ReportsMemory work before after
+ReportsBefore work before after (fault.CannotRead path) = ReportsRead work before after
 ReportsBefore work before after (fault.InState number (input.Energy f)) = after ≡ before
-ReportsBefore work before after (fault.InState number f) = ReportsSome work.replays work before after
-ReportsBefore work before after (fault.NotOneRun segments) = ReportsSome work.replays work before after
+ReportsBefore work before after (fault.InState number f) = ReportsState work before after number f
+ReportsBefore work before after (fault.NotOneRun segments) = ReportsReplayed work before after (ReportsAll work before after)
 ReportsBefore work before after _ = after ≡ before
 
 -- the progress lines of a work that ended with this result: all of them on success, otherwise those before the fault
@@ -40,9 +49,11 @@ abbrev pub Reports : {T A : Type 0} → Work → (before after : Output) → Res
 Reports work before after result = MatchResult result (λ _. ReportsAll work before after) (ReportsBefore work before after)
 
 -- Standard error before the text of a fault, with standard output before and after: only the progress lines of the
--- command. Standard error is unchanged if the arguments name no command, and may be unchanged if memory ran out.
+-- command. Standard error is unchanged if the arguments name no command, and may be unchanged if memory ran out before
+-- any output.
 abbrev pub IsBegun : {A : Type 0} → List (List ℕ) → Held → (out out' : Output) → CommandFault A → (before after : Output) → Type 0
-IsBegun words held out out' f before after = ((after ≡ before) × ((f ≡ fault.Memory) ⊎ ((c : CommandView) → IsCommand words c → ⊥)))
+IsBegun words held out out' f before after =
+    ((after ≡ before) × (((f ≡ fault.Memory) × (out' ≡ out)) ⊎ ((c : CommandView) → IsCommand words c → ⊥)))
     ⊎ ((c : CommandView) × IsCommand words c × ReportsBefore (work_of held out out' c) before after f)
 
 -- standard error after a fault: the progress lines before the fault (`IsBegun`), then this text

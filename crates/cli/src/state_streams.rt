@@ -54,42 +54,35 @@ pub(crate) fn perform_replay<
     ensures reports { Reports (work_of (F.held files.old) (O.output out.old) (O.output out.new) (command_view (Command.Replay replay.now)))
         (E.output err.old) (E.output err.new) result }
 {
-    let plan = plan_of(replay);
     let job = read(alloc, replay.job, files)?;
     let mut lines = open(replay.states, files)?;
-    let replayed = replay_lines(
-        rt,
-        alloc,
-        &job,
-        &mut lines,
-        &plan,
-        replay.progress,
-        out,
-        err,
-    );
+    let replayed = replay_lines(rt, alloc, &job, &mut lines, replay, out, err);
     stream_result(replayed, replay.states)
 }
 
-/// Replays the stream that a source reads under a job, and prints a line for each replayed segment. It reports progress
-/// if it is wanted.
+/// Replays the stream that a source reads under a job as the arguments of `replay` name it, and prints a line for each
+/// replayed segment. It reports progress if it is wanted.
 fn replay_lines<R: Threads + Sync, A: Allocator + Copy + Send + Sync, L: Lines, O: Out, E: Out>(
     rt: &R,
     alloc: A,
     job: &[u8],
     lines: &mut L,
-    plan: &ReplayPlan,
-    progress: bool,
+    replay: &Replay<'_>,
     out: &mut O,
     err: &mut E,
 ) -> Result<(), StreamFault<InputFault<A>>>
     requires { (O.output out.old).failed < 2 ^ 64 - 1 }
-    ensures writes { WritesStream (replayed_by (replay_plan_view plan.now) job.now) job.now (L.left lines.old)
+    ensures writes { WritesStream (replayed_by (plan_of_replay (replay_view replay.now)) job.now) job.now (L.left lines.old)
         (O.output out.old) (O.output out.new) result }
-    ensures watched { IsWatched (replay_plan_view plan.now) job.now (L.left lines.old) (O.output out.old)
-        (O.output out.new) (ReportsSteps progress (E.output err.old) (E.output err.new)) result }
+    ensures watched { IsWatched (plan_of_replay (replay_view replay.now)) job.now (L.left lines.old) (O.output out.old)
+        (O.output out.new) (ReportsSteps replay.now.progress (E.output err.old) (E.output err.new)) result }
 {
-    let mut watch = ProgressLines { err, progress };
-    replay_states(rt, alloc, job, lines, plan, &mut watch, out)
+    let plan = plan_of(replay);
+    let mut watch = ProgressLines {
+        err,
+        progress: replay.progress,
+    };
+    replay_states(rt, alloc, job, lines, &plan, &mut watch, out)
 }
 
 /// The plan of a replay that these arguments name.

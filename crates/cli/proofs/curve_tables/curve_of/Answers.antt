@@ -3,7 +3,6 @@ use Rattle.curves.specs.Tables.{curve_parts}
 use Rattle.curves.specs.declared.plans.CurvePlan.{CurvePlan}
 use Rattle.job.specs.Views.{job_value}
 use Rattle.command_line.specs.Views.{curve_view}
-use Rattle.cli.specs.Actions.{parts_work}
 use Rattle.cli.specs.CurveTexts.{IsPlanOf}
 use Rattle.cli.specs.Progress.{word_for}
 use Rattle.cli.specs.declared.progress.Counted.TheVariants as counted
@@ -29,6 +28,6 @@ returns-in_err-table-clause-reports g c =
     let IsAll : ℕ → Type 0 = λ all. (plan : CurvePlan) × IsPlanOf j curve plan × (all ≡ curve_parts j plan) in
     let told = c.in_err-table.ensures.reports in
     handed_on c.from_residual-in_err-table.result _ _ _ c.from_residual-in_err-table.ensures.1
-    (energy_told (parts_work curve.progress (word_for counted.Parts) IsAll) _ _ c.in_err-table.field-0.0
+    (energy_told curve.progress (word_for counted.Parts) IsAll _ _ c.in_err-table.field-0.0
     (part_printed curve.progress (word_for counted.Parts) IsAll (curve_parts j c.in_ok-plan.plan) told.0 _ _
     (c.in_ok-plan.plan, c.in_ok-plan.ensures.is, refl) told.1 told.2))
