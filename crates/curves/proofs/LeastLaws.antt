@@ -1,5 +1,5 @@
 -- The bounds of several walks, as loops compute them.
-use Rattle.std.proofs.Common.{◌≡◌, ℕ, zero, suc, ◌-◌, ◌<◌, List, [], ◌∷◌, drop, length, map, get_or, Option, Some, None, refl, sym, ap, subst, ◌∙◌, arith}
+use Rattle.std.proofs.Common.{◌≡◌, ℕ, zero, suc, ◌-◌, ◌<◌, false, List, [], ◌∷◌, drop, length, map, get_or, Option, Some, None, refl, sym, ap, subst, ◌∙◌, arith}
 use Rattle.energy_program.specs.Programs.{Trees}
 use Rattle.error_bounds.specs.Approximations.{Approximation, Outcomes}
 use Rattle.formula_bounds.specs.Entries.{Entry}
@@ -7,6 +7,8 @@ use Rattle.curves.specs.Slices.{BoundsView, bound_of_all, bounds_of, bounds_view
 use Rattle.formula_bounds.specs.Walks.{either_if_there, entries_of_program, outcomes_if_there, outcomes_of_all}
 use Rattle.curves.specs.declared.slices.Column.{Column}
 use Rattle.curves.specs.declared.slices.Column.TheVariants.{Energy, Slope}
+use Rattle.formula_bounds.specs.Nodes.{formula_of, has_choice}
+use Rattle.formula_bounds.proofs.ChoiceLaws.{single_program}
 use Rattle.formula_bounds.proofs.SingleLaws.{single_entry, some_entries}
 
 -- the outcomes of the entries from an index on
@@ -78,3 +80,8 @@ module _ (bits : ℕ) (inputs : List Approximation) (program : Trees) (left : �
       bounds_view (lesser_bound q.energy (bound_of_all (map (in_entry Energy) (x ∷ y ∷ ys))))
       (lesser_bound q.slope (bound_of_all (map (in_entry Slope) (x ∷ y ∷ ys))))) ep
       ∙ ap least e
+
+  -- a formula without choices has the plain bounds
+  pub without_choice : (b : BoundsView) → has_choice (formula_of program) ≡ false → b ≡ plain
+      → b ≡ least (entries_of_program bits inputs program left)
+  without_choice b none eb = eb ∙ ap least (sym (single_program bits inputs program left none))

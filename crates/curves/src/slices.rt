@@ -253,6 +253,24 @@ fn least_bounds<A: Allocator + Copy>(
     })
 }
 
+// The bounds of a range that isn't wide. A formula without choices has a single walk.
+fn narrow_bounds<A: Allocator + Copy>(
+    alloc: A,
+    formula: &Formula<A>,
+    frac: Frac,
+    inputs: &[Approximation],
+) -> Result<Bounds, AllocError>
+    ensures { (program : Trees) → formula.now ≡ formula_of program
+        → IfOk result (λ b. b ≡ slices.least_bounds (slices.plain_bounds (bits_of frac) program inputs.now)
+        (entries_of_program (bits_of frac) inputs.now program 3)) }
+{
+    if formula.has_choice() {
+        least_bounds(alloc, formula, frac, inputs)
+    } else {
+        plain_bounds(alloc, formula, frac, inputs)
+    }
+}
+
 // Whether a range with these ends has more than 16 distances.
 fn is_wide(lo: Fx, hi: Fx) -> bool
     ensures { result ≡ slices.is_wide (ranges.range lo hi) }
@@ -274,7 +292,7 @@ fn bounds_by<A: Allocator + Copy>(
     if wide {
         plain_bounds(alloc, formula, frac, inputs)
     } else {
-        least_bounds(alloc, formula, frac, inputs)
+        narrow_bounds(alloc, formula, frac, inputs)
     }
 }
 

@@ -11,4 +11,5 @@ pub mod StepListLaws
 pub mod StepLaws
 pub mod DefinitionLaws
 pub mod SingleLaws
+pub mod ChoiceLaws
 pub mod FormulaLaws

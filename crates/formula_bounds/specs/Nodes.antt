@@ -1,7 +1,11 @@
 -- The nodes of a tree in a list, each before its parts and the last part first, and the entry that a walk over the list
 -- from its end computes with a stack.
-use Rattle.std.specs.List.{flat_map}
-use Rattle.std.specs.Prelude.{ℕ, ◌-◌, ◌==◌, if◌then◌else◌, Option, Some, None, List, [], ◌∷◌, ◌++◌, map, drop, slice_get, slice_index_or, slice_set, Vec}
+use Rattle.std.specs.List.{flat_map, list_any}
+use Rattle.std.specs.Prelude.{ℕ, ◌-◌, ◌==◌, ◌||◌, Bool, true, false, if◌then◌else◌, Option, Some, None, List, [], ◌∷◌, ◌++◌, map, drop, slice_get, slice_index_or, slice_set, Vec}
+use Rattle.fixed.specs.declared.operations.Operator.{Operator}
+use Rattle.fixed.specs.declared.operations.Operator.TheVariants as op
+use Rattle.fixed.specs.declared.operations.Function.{Function}
+use Rattle.fixed.specs.declared.operations.Function.TheVariants as f
 use Rattle.energy_program.specs.Programs.{Trees}
 use Rattle.energy_program.specs.Tree.{Tree, Number, Input, Definition, Negated, Binary, Applied, Power, Select}
 use Rattle.formula_bounds.specs.declared.nodes.Node.{Node}
@@ -42,6 +46,33 @@ module _ (bits : ℕ) (inputs : List Approximation) (known : ℕ → Entry) wher
   abbrev pub after_nodes : List Node → List Entry
   after_nodes [] = []
   after_nodes (n ∷ ns) = after_node n (after_nodes ns)
+
+-- ---- choices
+
+-- a minimum or a maximum
+abbrev pub is_choice_of_two : Operator → Bool
+is_choice_of_two op.Minimum = true
+is_choice_of_two op.Maximum = true
+is_choice_of_two op.Add = false
+is_choice_of_two op.Subtract = false
+is_choice_of_two op.Multiply = false
+is_choice_of_two op.Divide = false
+
+-- an absolute value
+abbrev pub is_choice_of_one : Function → Bool
+is_choice_of_one f.Absolute = true
+is_choice_of_one f.SquareRoot = false
+is_choice_of_one (f.Flat g) = false
+
+abbrev pub is_choice : Node → Bool
+is_choice (node.Number c) = false
+is_choice (node.Input i) = false
+is_choice (node.Definition j) = false
+is_choice node.Negated = false
+is_choice (node.Binary o) = is_choice_of_two o
+is_choice (node.Applied g) = is_choice_of_one g
+is_choice (node.Power n) = false
+is_choice node.Select = true
 
 -- ---- walks that divide
 
@@ -131,3 +162,7 @@ items_of all = map (λ v. v.items) all
 -- the formula of a program
 abbrev pub formula_of : Trees → FormulaView
 formula_of (body, definitions) = formula_view (nodes_of body) (map nodes_of definitions)
+
+-- the formula has a choice, in the body or in a definition
+abbrev pub has_choice : FormulaView → Bool
+has_choice f = list_any is_choice f.body || list_any (list_any is_choice) f.definitions

@@ -1,5 +1,6 @@
 //! Formulas: the programs of energies, as lists of nodes, and their entries.
 ghost use Rattle.std.specs.Prelude.{◌≡◌, ℕ, ◌++◌, ◌-◌, drop, length, map, replicate, reverse, slice_get, slice_index_or, slice_set, ◌∷◌, [], ◌<◌, IfOk};
+ghost use Rattle.std.specs.List.{list_any};
 ghost use Rattle.fixed.specs.Fractions.{bits_of};
 ghost use Rattle.energy_program.specs.Programs.{Trees, trees_of};
 ghost use Rattle.energy_program.specs.Tree.{tree_of};
@@ -10,7 +11,7 @@ ghost use Rattle.formula_bounds.specs.Walks.{Defined, entries_of_program, walks_
 ghost use Rattle.formula_bounds.specs.Nodes.{after_node, after_nodes, at_depth, nodes_of};
 
 use crate::entries::Entry;
-use crate::nodes::{Node, append_nodes};
+use crate::nodes::{Node, append_nodes, has_choice};
 use crate::partial::Partial;
 use crate::walks::{Walk, define_all, tops, walk_all};
 use energy_program::{Expr, Program};
@@ -158,6 +159,13 @@ fn all_nodes_of<A: Allocator + Copy>(
     Ok(all)
 }
 
+// Whether one of these lists of nodes has a choice.
+fn have_choice<A: Allocator>(definitions: &[Vec<Node, A>]) -> bool
+    ensures { result ≡ list_any (λ v. list_any nodes.is_choice v.items) definitions.now }
+{
+    definitions.iter().any(|nodes| has_choice(nodes))
+}
+
 // The entries of all definitions: of none yet.
 fn no_entries<A: Allocator + Copy>(alloc: A, count: usize) -> Result<Vec<Entry, A>, AllocError>
     ensures { IfOk result (λ all. all.items ≡ replicate count e.missing) }
@@ -167,6 +175,16 @@ fn no_entries<A: Allocator + Copy>(alloc: A, count: usize) -> Result<Vec<Entry, 
         entries.push(Entry::missing())?;
     }
     Ok(entries)
+}
+
+impl<A: Allocator> Formula<A> {
+    /// Whether the formula has a choice: a minimum, a maximum, an absolute value or a select. Without one, there is a single
+    /// walk.
+    pub fn has_choice(&self) -> bool
+        ensures { result ≡ nodes.has_choice self.now }
+    {
+        has_choice(&self.body) || have_choice(&self.definitions)
+    }
 }
 
 impl<A: Allocator + Copy> Formula<A> {

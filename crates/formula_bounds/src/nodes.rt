@@ -2,7 +2,8 @@
 
 ghost use Rattle.std.specs.Prelude.{◌≡◌, ◌++◌, IfOk, map};
 ghost use Rattle.energy_program.specs.Tree.{tree_of};
-ghost use Rattle.formula_bounds.specs.Nodes.{nodes_of};
+ghost use Rattle.std.specs.List.{list_any};
+ghost use Rattle.formula_bounds.specs.Nodes.{is_choice, is_choice_of_one, is_choice_of_two, nodes_of};
 
 use energy_program::Expr;
 use fixed::{Constant, Function, Operator};
@@ -70,4 +71,45 @@ pub(crate) fn append_nodes<A: Allocator + Copy>(
         }
     }
     Ok(())
+}
+
+/// Whether an operator is a choice: a minimum or a maximum.
+pub(crate) fn is_choice_of_two(operator: Operator) -> bool
+    ensures { result ≡ is_choice_of_two operator }
+{
+    match operator {
+        Operator::Minimum | Operator::Maximum => true,
+        Operator::Add | Operator::Subtract | Operator::Multiply | Operator::Divide => false,
+    }
+}
+
+// Whether a function is a choice: an absolute value.
+fn is_choice_of_one(function: Function) -> bool
+    ensures { result ≡ is_choice_of_one function }
+{
+    match function {
+        Function::Absolute => true,
+        Function::SquareRoot | Function::Flat(_) => false,
+    }
+}
+
+// Whether a node is a choice: a minimum, a maximum, an absolute value or a select.
+fn is_choice(node: Node) -> bool
+    ensures { result ≡ is_choice node }
+{
+    match node {
+        Node::Binary(operator) => is_choice_of_two(operator),
+        Node::Applied(function) => is_choice_of_one(function),
+        Node::Select => true,
+        Node::Number(_) | Node::Input(_) | Node::Definition(_) | Node::Negated | Node::Power(_) => {
+            false
+        }
+    }
+}
+
+/// Whether one of these nodes is a choice.
+pub(crate) fn has_choice(nodes: &[Node]) -> bool
+    ensures { result ≡ list_any is_choice nodes.now }
+{
+    nodes.iter().any(|node| is_choice(*node))
 }

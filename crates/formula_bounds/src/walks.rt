@@ -8,7 +8,7 @@ ghost use Rattle.formula_bounds.specs.Entries as e;
 
 use crate::entries::{Entry, branches_of_one, branches_of_select, branches_of_two};
 use crate::formulas::{entry_of, popped};
-use crate::nodes::Node;
+use crate::nodes::{Node, is_choice_of_two};
 use error_bounds::Approximation;
 use fixed::Frac;
 use std::alloc::{AllocError, Allocator};
@@ -59,7 +59,11 @@ fn branches_at(frac: Frac, node: Node, stack: &[Entry]) -> Option<(Entry, Entry)
 {
     match node {
         Node::Binary(operator) => {
-            branches_of_two(frac, operator, &at_depth(stack, 1), &at_depth(stack, 0))
+            if is_choice_of_two(operator) {
+                branches_of_two(frac, operator, &at_depth(stack, 1), &at_depth(stack, 0))
+            } else {
+                None
+            }
         }
         Node::Applied(function) => branches_of_one(frac, function, &at_depth(stack, 0)),
         Node::Select => branches_of_select(
