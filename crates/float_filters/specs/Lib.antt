@@ -1,0 +1,7 @@
+pub mod Near
+pub mod Limits
+pub mod Floors
+pub mod Forces
+pub mod DistanceFloors
+pub mod Propositions
+pub mod DistanceFilters

@@ -1,0 +1,29 @@
+//! Decisions in floating point that a proved bound on the rounding errors makes exact (S. Fortune and C. J. Van Wyk,
+//! Static Analysis Yields Efficient Exact Integer Arithmetic for Computational Geometry, 1996: floating-point filters).
+//!
+//! `specs/Near.antt` defines how far a float is from an exact number, in factors of 1 - 2^-53 and 1 + 2^-53: one
+//! rounding adds one factor. `floors` finds integers that are the floors of four floats, and in which lanes this is
+//! certain. `distances` and `forces` return exact results for four pairs, or none.
+#![tactic(auto)]
+
+mod conversions;
+mod distance_filters;
+mod distance_lanes;
+mod floor_lanes;
+mod force_lanes;
+mod lengths;
+mod limits;
+mod separations;
+mod vectors;
+
+pub use conversions::{exact_i32, exact_u32, exact_u64, near_u64, near_u128};
+pub use distance_filters::DistanceFilter;
+pub use distance_lanes::distances;
+pub use floor_lanes::{floors, integers};
+pub use force_lanes::{ForceFloors, FourForces, force_floors, force_slack, forces};
+pub use lengths::{
+    four, near_length, near_lengths, near_margin, near_products, near_ratio, near_reach,
+};
+pub use limits::{FloatLimit, Verdict, around};
+pub use separations::{near_separation, near_square};
+pub use vectors::{are_all_set, both};
