@@ -74,7 +74,8 @@ all_requested paths (path ∷ more) = all_requested (also_requested paths path) 
 -- and after it.
 abbrev pub UpTo : (IsLast : List ℕ → Paths → Paths → Type 0) → List (List ℕ) → (requested requested' : Paths) → Type 0
 UpTo IsLast [] requested requested' = ⊥
-UpTo IsLast (path ∷ more) requested requested' = IsLast path requested requested' ⊎ UpTo IsLast more (also_requested requested path) requested'
+UpTo IsLast (path ∷ more) requested requested' =
+    IsLast path requested requested' ⊎ UpTo IsLast more (also_requested requested path) requested'
 
 -- ---- commands
 
@@ -167,7 +168,8 @@ requested_by paths c = all_requested paths (files_of c)
 -- a command requested all its files in their order, or only the files up to one of them
 abbrev pub AsksFor : CommandView → Paths → Paths → Type 0
 AsksFor c before after =
-    (after ≡ requested_by before c) ⊎ UpTo (λ path requested requested'. requested' ≡ also_requested requested path) (files_of c) before after
+    (after ≡ requested_by before c)
+    ⊎ UpTo (λ path requested requested'. requested' ≡ also_requested requested path) (files_of c) before after
 
 -- ---- work and its progress
 

@@ -92,7 +92,8 @@ version_line = codes "pairmd 1.6.0\n"
 abbrev pub IsDone : List (List ℕ) → Held → (requested requested' : Paths) → (before after : Output) → Type 0
 IsDone words held requested requested' before after = (AsksForHelp words × (requested' ≡ requested) × PrintsSome before after)
     ⊎ (AsksForVersion words × (requested' ≡ requested) × Appends before after version_line)
-    ⊎ ((c : CommandView) × IsCommand words c × (requested' ≡ requested_by requested c) × OfTask held c (λ task. HasPrinted task before after))
+    ⊎ ((c : CommandView) × IsCommand words c × (requested' ≡ requested_by requested c)
+    × OfTask held c (λ task. HasPrinted task before after))
 
 -- ---- standard error
 

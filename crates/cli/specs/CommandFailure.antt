@@ -265,8 +265,8 @@ module _ (words : List (List ℕ)) (held : Held) (requested requested' : Paths) 
   -- A write to standard output failed: in a command, or in the text of the help or the version.
   abbrev pub IsOutputFailed : Type 0
   IsOutputFailed = (BeginsWish words out out' × (requested' ≡ requested) × (between ≡ err))
-      ⊎ ((c : CommandView) × IsCommand words c × (requested' ≡ requested_by requested c) × OfTask held c (λ task. BeginsOutput task out out')
-      × ReportsTexts (work_of held out out' c) err between)
+      ⊎ ((c : CommandView) × IsCommand words c × (requested' ≡ requested_by requested c)
+      × OfTask held c (λ task. BeginsOutput task out out') × ReportsTexts (work_of held out out' c) err between)
 
   -- Memory ran out: after some steps of a run or of a replay; or in the work of `check` or `curve`; or before any step and
   -- any output; or for the text of another error, of which a failed write has left a prefix of the output.

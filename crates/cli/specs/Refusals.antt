@@ -190,7 +190,8 @@ unread read.Memory path = fault.Memory
 
 -- The file at this path wasn't read, and was the last file to be requested. If the file's bytes are known, the fault is
 -- `Memory`.
-pub record IsUnread {A : Type 0} (held : Held) (path : List ℕ) (requested_before requested_after : Paths) (f : CommandFault A) : Type 0 where
+pub record IsUnread {A : Type 0} (held : Held) (path : List ℕ) (requested_before requested_after : Paths) (f : CommandFault A)
+    : Type 0 where
   pub why : ReadFault
   pub borrowed : Bor (List ℕ)
   pub is : f ≡ unread why borrowed

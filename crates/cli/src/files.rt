@@ -49,8 +49,10 @@ pub(crate) fn read_two<'a, A: Allocator + Copy, F: Files>(
     second: &'a str,
     files: &mut F,
 ) -> Result<(Vec<u8, A>, Vec<u8, A>), CommandFault<'a, A>>
-    ensures { MatchResult result (λ both. (F.requested files.new ≡ also_requested (also_requested (F.requested files.old) first.entry.now) second.entry.now)
-        × IsHeld (F.held files.old) first.entry.now both.0.items × IsHeld (F.held files.old) second.entry.now both.1.items)
+    ensures { MatchResult result (λ both.
+        (F.requested files.new ≡ also_requested (also_requested (F.requested files.old) first.entry.now) second.entry.now)
+        × IsHeld (F.held files.old) first.entry.now both.0.items
+        × IsHeld (F.held files.old) second.entry.now both.1.items)
         (IsUnreadOf (F.held files.old) (first.entry.now ∷ second.entry.now ∷ []) (F.requested files.old) (F.requested files.new)) }
 {
     let first = read(alloc, first, files)?;
@@ -65,7 +67,8 @@ pub(crate) fn read<'a, A: Allocator + Copy, F: Files>(
     files: &mut F,
 ) -> Result<Vec<u8, A>, CommandFault<'a, A>>
     ensures reads { MatchResult result
-        (λ v. (F.requested files.new ≡ also_requested (F.requested files.old) path.entry.now) × IsHeld (F.held files.old) path.entry.now v.items)
+        (λ v. (F.requested files.new ≡ also_requested (F.requested files.old) path.entry.now)
+        × IsHeld (F.held files.old) path.entry.now v.items)
         (IsUnread (F.held files.old) path.entry.now (F.requested files.old) (F.requested files.new)) }
     ensures still { F.held files.new ≡ F.held files.old }
 {
