@@ -124,18 +124,18 @@ COUNTS = [
     ("CONTRIBUTING.md", "and N tests", lambda: sum(it.count("#[test]") for it in texts("crates/*/src/**/*.rt"))),
 ]
 LENGTHS = {
-    "README.md": 2190,
-    "docs/GUIDE.md": 5625,
-    "docs/ACCURACY.md": 1890,
-    "docs/FORMATS.md": 4560,
-    "docs/MODEL.md": 3785,
-    "docs/PROOFS.md": 2735,
-    "docs/ARCHITECTURE.md": 3085,
-    "docs/BOUNDS.md": 1195,
-    "docs/PERFORMANCE.md": 905,
-    "docs/VALIDATION.md": 695,
-    "CONTRIBUTING.md": 3030,
-    "docs/PLAN.md": 655,
+    "README.md": 2186,
+    "docs/GUIDE.md": 5621,
+    "docs/ACCURACY.md": 1887,
+    "docs/FORMATS.md": 4559,
+    "docs/MODEL.md": 3781,
+    "docs/PROOFS.md": 2732,
+    "docs/ARCHITECTURE.md": 3100,
+    "docs/BOUNDS.md": 1364,
+    "docs/PERFORMANCE.md": 904,
+    "docs/VALIDATION.md": 694,
+    "CONTRIBUTING.md": 3031,
+    "docs/PLAN.md": 491,
 }
 OTHERS = 5650
 MOST_FUNCTIONS = 99
