@@ -129,13 +129,13 @@ LENGTHS = {
     "docs/ACCURACY.md": 1887,
     "docs/FORMATS.md": 4559,
     "docs/MODEL.md": 3781,
-    "docs/PROOFS.md": 2732,
+    "docs/PROOFS.md": 2735,
     "docs/ARCHITECTURE.md": 3100,
     "docs/BOUNDS.md": 1364,
     "docs/PERFORMANCE.md": 904,
     "docs/VALIDATION.md": 694,
     "CONTRIBUTING.md": 3031,
-    "docs/PLAN.md": 491,
+    "docs/PLAN.md": 488,
 }
 OTHERS = 5650
 MOST_FUNCTIONS = 99

@@ -10,7 +10,7 @@ use lib.Ieee.Exact.{HasValue, round_exact}
 use Rattle.fixed.specs.Rounding.{IsFloor}
 use Rattle.float_filters.specs.Near.{denominator, numerator, HasSign, IsNearSigned, IsNearRoot, IsFractionNear, IsZeroOrModerate}
 use Rattle.float_filters.specs.Floors.{positive_part, negative_part, IsFinite, half, halved, IsInteger, IsCertified, IsDifference}
-use Rattle.float_filters.specs.Forces.{magnitude, ratio_of, margin_of, room_of, least_of, component_of, IsSlack, IsLine, IsSize}
+use Rattle.float_filters.specs.Forces.{magnitude, ratio_of, margin_of, room_of, least_of, float_component_of, IsSlack, IsLine, IsSize}
 use Rattle.float_filters.proofs.Fractions.{near_itself}
 use Rattle.float_filters.proofs.FloatLaws.{round_near, near_product, near_quotient}
 use Rattle.float_filters.proofs.Differences.{IsSigned, IsRounded, subtracts, same_rounded, from_value}
@@ -468,12 +468,12 @@ certify true c room least t h small cert = let e = not_positive c h in cert (sig
 
 force_some : (s L A G : ℕ) (sg sx : Bool) (size r x slack t : Float) → 0 < L → L ≤ 2 ^ 56 → L * L ≤ s → s < (L + 1) * (L + 1) → A * A ≤ s → 0 < G → G ≤ 2 ^ 52
     → IsNearRoot 7 r s 1 → IsNearSigned 0 sg size G 1 → IsNearSigned 1 sx x A 1 → IsSlack L slack → T (lt (least_of size r slack) (room_of size r slack))
-    → (IsFinite (component_of size r x) → positive_part (component_of size r x) ≤ 2 ^ 50 * denominator (component_of size r x) → negative_part (component_of size r x) ≤ 2 ^ 50 * denominator (component_of size r x)
-    → IsCertified (component_of size r x) (room_of size r slack) (least_of size r slack) t)
+    → (IsFinite (float_component_of size r x) → positive_part (float_component_of size r x) ≤ 2 ^ 50 * denominator (float_component_of size r x) → negative_part (float_component_of size r x) ≤ 2 ^ 50 * denominator (float_component_of size r x)
+    → IsCertified (float_component_of size r x) (room_of size r slack) (least_of size r slack) t)
     → IsInteger t (positive_part t) × IsDecided (unlike (unlike sg false) sx) (positive_part t) G A L
 force_some s L A G sg sx size r x slack t L0 Lm below above side G0 Gm length slope part slackness order cert =
     let q = ratio_of size r in
-    let c = component_of size r x in
+    let c = float_component_of size r x in
     let m = margin_of size r slack in
     let le = below_root A L s side above in
     let ratio = ratio_is s L G sg size r L0 Lm below above G0 Gm length slope in
@@ -581,8 +581,8 @@ none_at_zero s c m t hc zc hm zm cert =
 
 force_none : (s L : ℕ) (sx : Bool) (size r x slack t : Float) → 0 < L → L ≤ 2 ^ 56 → L * L ≤ s → s < (L + 1) * (L + 1)
     → IsNearRoot 7 r s 1 → IsNearSigned 0 false size 0 1 → HasSign sx x → HasSign false slack
-    → (IsFinite (component_of size r x) → positive_part (component_of size r x) ≤ 2 ^ 50 * denominator (component_of size r x) → negative_part (component_of size r x) ≤ 2 ^ 50 * denominator (component_of size r x)
-    → IsCertified (component_of size r x) (room_of size r slack) (least_of size r slack) t) → ⊥
+    → (IsFinite (float_component_of size r x) → positive_part (float_component_of size r x) ≤ 2 ^ 50 * denominator (float_component_of size r x) → negative_part (float_component_of size r x) ≤ 2 ^ 50 * denominator (float_component_of size r x)
+    → IsCertified (float_component_of size r x) (room_of size r slack) (least_of size r slack) t) → ⊥
 force_none s L sx size r x slack t L0 Lm below above length slope hx hs cert =
     let q = ratio_of size r in
     let d = divisor_is s L r L0 Lm below above length in
@@ -591,13 +591,13 @@ force_none s L sx size r x slack t L0 Lm below above length slope hx hs cert =
     let e = magnitude_zero q ratio.0 in
     let m = zero_product false (magnitude q) slack (subst (HasSign false) (sym e) ratio.0) (ap numerator e ∙ ratio.1) hs in
     let z = c.1 in
-    none_at_zero _ (component_of size r x) (margin_of size r slack) t c.0 c.1 m.0 m.1 (certify _ (component_of size r x) (room_of size r slack) (least_of size r slack) t c.0 (omega arith) cert)
+    none_at_zero _ (float_component_of size r x) (margin_of size r slack) t c.0 c.1 m.0 m.1 (certify _ (float_component_of size r x) (room_of size r slack) (least_of size r slack) t c.0 (omega arith) cert)
 
 -- ---- any force
 
 pub force_lane : (s : ℕ) (g a : ℤ) (size r x slack t : Float) → IsSize g size → IsLine s a r x slack → T (lt (least_of size r slack) (room_of size r slack))
-    → (IsFinite (component_of size r x) → positive_part (component_of size r x) ≤ 2 ^ 50 * denominator (component_of size r x) → negative_part (component_of size r x) ≤ 2 ^ 50 * denominator (component_of size r x)
-    → IsCertified (component_of size r x) (room_of size r slack) (least_of size r slack) t)
+    → (IsFinite (float_component_of size r x) → positive_part (float_component_of size r x) ≤ 2 ^ 50 * denominator (float_component_of size r x) → negative_part (float_component_of size r x) ≤ 2 ^ 50 * denominator (float_component_of size r x)
+    → IsCertified (float_component_of size r x) (room_of size r slack) (least_of size r slack) t)
     → IsInteger t (positive_part t) × IsFloor (g *ℤ a) (pos (root s)) (pos (positive_part t) -ℤ pos (3 * 2 ^ 51))
 force_lane s g a size r x slack t exact line order cert = by g a exact line
   where

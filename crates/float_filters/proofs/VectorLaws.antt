@@ -12,7 +12,7 @@ use Rattle.float_filters.specs.Floors.{HasFloats, IsSet, lane, IsFinite, IsCerti
 use Rattle.float_filters.specs.Near.{denominator}
 use Rattle.fixed.specs.Roots.{root}
 use Rattle.fixed.specs.Rounding.{IsFloor}
-use Rattle.float_filters.specs.Forces.{IsLine, IsSize, component_of, least_of, magnitude, margin_of, ratio_of, room_of}
+use Rattle.float_filters.specs.Forces.{IsLine, IsSize, float_component_of, least_of, magnitude, margin_of, ratio_of, room_of}
 use Rattle.float_filters.proofs.ForceLaws.{force_lane}
 use Rattle.float_filters.proofs.FloorLaws.{certified, half_is, middle_is, bits_of_integer}
 
@@ -207,7 +207,7 @@ force_of_lane s g a size r x slack q m room least p t q' m' room' least' p' exac
     let u : m ≡ margin_of size r slack = m' ∙ ap (λ (y : Float). mul binary64 (magnitude y) slack) q' in
     let v : room ≡ room_of size r slack = room' ∙ ap (sub binary64 half) u in
     let w : least ≡ least_of size r slack = least' ∙ (λ i. sub binary64 (u i) (half_is i)) in
-    let c : p ≡ component_of size r x = p' ∙ ap (λ (y : Float). mul binary64 y x) q' in
+    let c : p ≡ float_component_of size r x = p' ∙ ap (λ (y : Float). mul binary64 y x) q' in
     force_lane s g a size r x slack t exact line (subst T (λ i. lt (w i) (v i)) order)
     (subst (λ (y : Float). IsFinite y → positive_part y ≤ 2 ^ 50 * denominator y → negative_part y ≤ 2 ^ 50 * denominator y → IsCertified y (room_of size r slack) (least_of size r slack) t) c
     (subst (λ (y : Float). IsFinite p → positive_part p ≤ 2 ^ 50 * denominator p → negative_part p ≤ 2 ^ 50 * denominator p → IsCertified p (room_of size r slack) y t) w

@@ -27,8 +27,8 @@ abbrev pub least_of : Float → Float → Float → Float
 least_of g r slack = halved (margin_of g r slack)
 
 -- the component: the ratio times x, rounded
-abbrev pub component_of : Float → Float → Float → Float
-component_of g r x = mul binary64 (ratio_of g r) x
+abbrev pub float_component_of : Float → Float → Float → Float
+float_component_of g r x = mul binary64 (ratio_of g r) x
 
 -- the slack is at least 5/8 + 63/4 L / 2^53, and not huge; L is the integer length of a line
 pub record IsSlack (L : ℕ) (slack : Float) : Type 0 where
@@ -52,7 +52,7 @@ pub record IsSize (g : ℤ) (size : Float) : Type 0 where
 
 -- In a lane that is set, t is a number; and t - 3 * 2^51 is the component of the force of the size g along a line, rounded
 -- down, for all exact numbers that the floats may stand for.
-pub record AreForces (sizes lengths x : List Float) (slack : Float) (t : List Float) (mask : List ℤ) : Type 0 where
+pub record AreForceFloors (sizes lengths x : List Float) (slack : Float) (t : List Float) (mask : List ℤ) : Type 0 where
   pub number : (k : ℕ) → k < 4 → IsSet mask k → NotNan (lane t k)
   pub each : (k : ℕ) → k < 4 → IsSet mask k → (s : ℕ) (g a : ℤ) → IsSize g (lane sizes k) → IsLine s a (lane lengths k) (lane x k) slack
       → IsInteger (lane t k) (positive_part (lane t k))

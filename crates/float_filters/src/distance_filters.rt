@@ -1,6 +1,6 @@
 //! The filter of distances: four distances at once, if all of them are sure.
 
-ghost use Rattle.std.specs.Prelude.{false, ◌≡◌, ◌^◌, ◌≤◌, ◌<◌, IfSome};
+ghost use Rattle.std.specs.Prelude.{false, ◌≡◌, ◌^◌, ◌<◌, max, IfSome};
 ghost use Rattle.float_filters.specs.DistanceFilters.{AreDistances, IsMargin, IsScale, margin_prop};
 ghost use Rattle.float_filters.specs.Near.{IsNear};
 ghost use Rattle.float_filters.specs.Propositions.{near_prop};
@@ -35,7 +35,7 @@ impl DistanceFilter {
         ensures limit { result.limit ≡ limit }
         ensures dividend { result.dividend ≡ dividend }
         ensures divisor { result.divisor ≡ divisor }
-        ensures core { core ≤ result.core }
+        ensures core { result.core ≡ max core 1 }
     {
         let factor = near_ratio(dividend, divisor);
         DistanceFilter {

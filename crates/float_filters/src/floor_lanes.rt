@@ -1,7 +1,7 @@
 //! Certified floors of four floats: estimates by adding 3 * 2^51, and a mask of the lanes whose estimate is the floor.
 //!
-//! Between 2^52 and 2^53 the floats are the integers, so adding 3 * 2^51 to `p - 1/2` rounds to an integer. What the
-//! rounding took off tells how far `p` is from the next integers.
+//! Between 2^52 and 2^53 the floats are the integers, so adding 3 * 2^51 to `p - 1/2` rounds to an integer. The
+//! part that the rounding took off is the distance of `p - 1/2` from that integer.
 
 ghost use Rattle.std.specs.Prelude.{◌≡◌, ℕ, pos, ◌+◌, ◌-◌, ◌*◌, ◌%◌, ◌^◌, ◌<◌, ◌≤◌, ◌-ℤ◌, slice_index, slice_index_or};
 ghost use Rattle.std.specs.Float.{NotNan};

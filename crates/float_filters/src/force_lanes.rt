@@ -8,11 +8,12 @@ ghost use Rattle.std.specs.Prelude.{◌≡◌, ℕ, pos, ◌+◌, ◌-◌, ◌*�
 ghost use Rattle.std.specs.Int.{cast_unsigned, w64};
 ghost use Rattle.std.specs.Float.Ieee.{binary64, of_bits};
 ghost use Rattle.float_filters.specs.Floors.{HasFloats, IsSet, lane};
-ghost use Rattle.float_filters.specs.Forces.{AreComponents, AreForces, IsSize, IsSlack, ratio_of};
+ghost use Rattle.float_filters.specs.Forces.{AreComponents, AreForceFloors, IsSize, IsSlack, ratio_of};
 ghost use Rattle.float_filters.specs.Near.{IsNearRoot};
 ghost use Rattle.fixed.specs.Roots.{root};
 
 use crate::floor_lanes::{MIDDLE, floors, integers};
+use crate::lengths::SMALL;
 use crate::vectors::{are_all_set, both, half_less, magnitudes, minus, products, quotients, times};
 use std::simd::prelude::*;
 
@@ -23,9 +24,6 @@ const BIAS: u64 = 0x8_0000_0000_0000;
 const LOW: u64 = 0xF_FFFF_FFFF_FFFF;
 
 const PATTERN: u64 = 0x4330_0000_0000_0000;
-
-// 2^-49.
-const SMALL: f64 = 1.0 / 562949953421312.0;
 
 /// The bits of four integers.
 #[inline(always)]
@@ -110,9 +108,9 @@ pub fn force_floors(
     z: f64x4,
     slack: f64,
 ) -> ForceFloors
-    ensures x { AreForces sizes lengths x slack result.x result.sure }
-    ensures y { AreForces sizes lengths y slack result.y result.sure }
-    ensures z { AreForces sizes lengths z slack result.z result.sure }
+    ensures x { AreForceFloors sizes lengths x slack result.x result.sure }
+    ensures y { AreForceFloors sizes lengths y slack result.y result.sure }
+    ensures z { AreForceFloors sizes lengths z slack result.z result.sure }
 {
     let ratios = ratios(sizes, lengths);
     let margins = times(magnitudes(ratios), slack);

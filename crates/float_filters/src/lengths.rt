@@ -8,7 +8,7 @@ use crate::conversions::{exact_u32, near_u128};
 use std::simd::prelude::*;
 
 // 2^-49.
-const SMALL: f64 = 1.0 / 562949953421312.0;
+pub(crate) const SMALL: f64 = 1.0 / 562949953421312.0;
 
 /// The float next to `n / d`. Both numbers are positive.
 #[inline(always)]

@@ -24,6 +24,6 @@ pub use force_lanes::{ForceFloors, FourForces, force_floors, force_slack, forces
 pub use lengths::{
     four, near_length, near_lengths, near_margin, near_products, near_ratio, near_reach,
 };
-pub use limits::{FloatLimit, Verdict, around};
+pub use limits::{Comparison, FloatLimit, around};
 pub use separations::{near_separation, near_square};
 pub use vectors::{are_all_set, both};

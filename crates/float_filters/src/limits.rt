@@ -20,7 +20,7 @@ pub struct FloatLimit {
 
 /// The result of a comparison with a limit: whether the square is below it, if that is sure.
 #[derive(Clone, Copy)]
-pub struct Verdict {
+pub struct Comparison {
     pub below: bool,
     pub sure: bool,
 }
@@ -39,12 +39,12 @@ pub fn around(limit: u128) -> FloatLimit
 impl FloatLimit {
     /// Whether a square is below the limit, if the float `square` is near it with five roundings.
     #[inline(always)]
-    pub fn compare(self, square: f64) -> Verdict
+    pub fn compare(self, square: f64) -> Comparison
         ensures { (s limit : ℕ) → IsAround limit self → IsNear 5 square s 1 → IsTrue result.sure → result.below ≡ nat_lt s limit }
     {
         let below = square < self.low;
         let above = square > self.high;
-        Verdict {
+        Comparison {
             below,
             sure: below | above,
         }
