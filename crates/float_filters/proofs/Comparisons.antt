@@ -1,5 +1,5 @@
 -- What comparisons of floats say of their values.
-use Rattle.std.proofs.Common.{◌≡◌, ℕ, zero, suc, ◌+◌, ◌-◌, ◌*◌, ◌/◌, ◌%◌, ◌^◌, ◌<◌, ◌≤◌, ◌⊎◌, Bool, true, false, cond, ◌&&◌, ◌||◌, T, eqb, ltb, leb, refl, sym, ap, ◌∙◌, subst, inl, inr, arith, pos, negsuc, pow_pos, pow_mono, pow-add, shl_lt, lt_of_not-le, le_of_suc-le-suc, lt_of_lt_of_le, le_of_mul-le-mul_right, le_of_lt, eqb→eq, eq-eqb, ne_eqb, ltb→lt, leb→le}
+use Rattle.std.proofs.Common.{◌≡◌, ℕ, zero, suc, ◌+◌, ◌-◌, ◌*◌, ◌/◌, ◌%◌, ◌^◌, ◌<◌, ◌≤◌, ◌⊎◌, Bool, true, false, cond, ◌&&◌, ◌||◌, T, eqb, ltb, leb, refl, sym, ap, ◌∙◌, subst, inl, inr, arith, pos, negsuc, pow_pos, pow_mono, pow-add, shl_lt, lt_of_not-le, le_of_suc-le-suc, lt_of_lt_of_le, mul-le-mul_right, le_of_mul-le-mul_right, le_of_lt, eqb→eq, eq-eqb, ne_eqb, ltb→lt, leb→le}
 use lib.IntN.{ℤ}
 use lib.Ieee.{Float, nan, inf, fin, binary64, up, down, size, round, lt, eq, le, fits, to_bits, of_bits}
 use lib.Ieee.Bits.{of_bits-to_bits}
@@ -10,7 +10,7 @@ use lib.Ieee.Back.{round_whole}
 use Rattle.std.proofs.lemmas.Float as order
 use Rattle.std.proofs.lemmas.Bool.{cases_eq}
 use Rattle.float_filters.specs.Near.{denominator}
-use Rattle.float_filters.specs.Floors.{positive_part, negative_part, IsFinite, IsDifference, IsLess, IsMore}
+use Rattle.float_filters.specs.Floors.{positive_part, negative_part, IsFinite, IsDifference, IsLess, IsAtLeast}
 use Rattle.float_filters.proofs.Differences.{IsSigned, IsRounded, rounded_le, from_value}
 
 -- ---- a float that fits is its own rounding
@@ -82,7 +82,7 @@ denominator_pos nan = omega arith
 denominator_pos (inf s) = omega arith
 denominator_pos (fin s m e) = down_pos e
 
--- ---- less than a float, and more
+-- ---- less than a float
 
 no_less : (x : Float) → T (lt x nan) → ⊥
 unfolding lt
@@ -98,18 +98,6 @@ less_infinity (inf true) true t = absurd t
 less_infinity (inf false) true t = absurd t
 less_infinity (fin r m e) true t = absurd t
 
-more_infinity : (x : Float) (s : Bool) → T (lt (inf s) x) → s ≡ true
-unfolding lt
-more_infinity x true t = refl
-more_infinity nan false t = absurd t
-more_infinity (inf true) false t = absurd t
-more_infinity (inf false) false t = absurd t
-more_infinity (fin r m e) false t = absurd t
-
-no_more : (x : Float) → T (lt nan x) → ⊥
-unfolding lt
-no_more x t = t
-
 -- if a rounded number is less than a float, so is the number
 pub less_value : (a b c : ℕ) (x y : Float) → 0 < c → IsRounded x a b c → T (fits binary64 y) → T (lt x y) → IsLess a b c y
 less_value a b c x nan C r p l = absurd (no_less x l)
@@ -118,15 +106,6 @@ less_value a b c x (fin s m e) C r p l =
     let y = fin s m e in
     lt_of_not-le (λ (g : positive_part y * c + b * denominator y ≤ a * denominator y + negative_part y * c).
     order.lt_irrefl x (order.lt_of_lt_of_le x y x l (rounded_le y x _ _ _ a b c (denominator_pos y) C (itself y p tt) r g)))
-
--- if a rounded number is more than a float, so is the number
-pub more_value : (a b c : ℕ) (x y : Float) → 0 < c → IsRounded x a b c → T (fits binary64 y) → T (lt y x) → IsMore a b c y
-more_value a b c x nan C r p l = absurd (no_more x l)
-more_value a b c x (inf s) C r p l = more_infinity x s l
-more_value a b c x (fin s m e) C r p l =
-    let y = fin s m e in
-    lt_of_not-le (λ (g : a * denominator y + negative_part y * c ≤ positive_part y * c + b * denominator y).
-    order.lt_irrefl x (order.lt_of_le_of_lt x y x (rounded_le x y a b c _ _ _ C (denominator_pos y) r (itself y p tt) g) l))
 
 -- ---- values of floats in order
 
@@ -164,6 +143,30 @@ le_value (fin false m e) (fin true n d) p q t =
     let h : A ≡ B = eqb→eq A B (and_l (eqb A B) (eqb A 0) t) in
     let g : A ≡ 0 = eqb→eq A 0 (and_r (eqb A B) (eqb A 0) t) in
     omega arith
+
+-- ---- at least a float
+
+at_least_infinity : (x : Float) (s : Bool) → IsFinite x → T (le (inf s) x) → s ≡ true
+unfolding le lt eq
+at_least_infinity x true f t = refl
+at_least_infinity nan false f t = absurd f
+at_least_infinity (inf r) false f t = absurd f
+at_least_infinity (fin r m e) false f t = absurd t
+
+not_at_least : (x : Float) → T (le nan x) → ⊥
+unfolding le lt eq
+not_at_least x t = t
+
+-- if a number is a float that is at least another, the number is
+pub at_least_value : (a b c : ℕ) (x y : Float) → IsDifference x a b c → T (le y x) → IsAtLeast a b c y
+at_least_value a b c x nan v l = absurd (not_at_least x l)
+at_least_value a b c x (inf s) v l = at_least_infinity x s v.finite l
+at_least_value a b c x (fin s m e) v l =
+    let y = fin s m e in
+    let h : positive_part y * denominator x * c + negative_part x * denominator y * c ≤ positive_part x * denominator y * c + negative_part y * denominator x * c = omega (arith, mul-le-mul_right c (le_value y x tt v.finite l)) in
+    let w : positive_part x * c * denominator y + b * denominator x * denominator y ≡ a * denominator x * denominator y + negative_part x * c * denominator y = omega (arith, ap (λ (k : ℕ). k * denominator y) v.value) in
+    let g : (positive_part y * c + b * denominator y) * denominator x ≤ (a * denominator y + negative_part y * c) * denominator x = omega arith in
+    le_of_mul-le-mul_right g (denominator_pos x)
 
 finite_between : (l x h : Float) → IsFinite l → IsFinite h → T (le l x) → T (le x h) → IsFinite x
 unfolding le lt eq

@@ -1,10 +1,10 @@
 -- The error of one rounding of a signed number, and what a certified floor says of the exact number.
-use Rattle.std.proofs.Common.{◌≡◌, ℕ, zero, suc, ◌+◌, ◌-◌, ◌*◌, ◌^◌, ◌<◌, ◌≤◌, ◌⊎◌, Bool, true, false, T, refl, sym, ap, subst, arith, inl, inr, pos, negsuc, lt_of_mul-lt-mul_right, mul-le-mul_right, mul-lt-mul_of_pos_right, true≢false}
+use Rattle.std.proofs.Common.{◌≡◌, ℕ, zero, suc, ◌+◌, ◌-◌, ◌*◌, ◌^◌, ◌<◌, ◌≤◌, ◌⊎◌, Bool, true, false, T, refl, sym, ap, subst, arith, inl, inr, pos, negsuc, lt_of_mul-lt-mul_right, mul-le-mul_right, le_of_mul-le-mul_right, mul-lt-mul_of_pos_right, true≢false}
 use Rattle.std.proofs.lemmas.Bool.{cases_lt}
 use lib.Ieee.{Float, nan, inf, fin, binary64, round, fits, up}
 use lib.Ieee.Fits.{down_pos}
 use Rattle.float_filters.specs.Near.{denominator, numerator, HasSign, IsNearSigned, IsZeroOrModerate}
-use Rattle.float_filters.specs.Floors.{positive_part, negative_part, IsFinite, IsLess, IsMore}
+use Rattle.float_filters.specs.Floors.{positive_part, negative_part, IsFinite, IsLess, IsAtLeast}
 use Rattle.float_filters.proofs.FloatLaws.{round_near}
 use Rattle.float_filters.proofs.Differences.{IsSigned, IsRounded}
 use Rattle.float_filters.proofs.Comparisons.{denominator_pos, parts}
@@ -29,16 +29,16 @@ signed_finite s nan h = absurd h
 signed_finite s (inf t) h = absurd h
 signed_finite s (fin t m e) h = tt
 
--- less than a finite float, and more
+-- less than a finite float, and at least a finite float
 pub less_finite : (a b c : ℕ) (y : Float) → IsFinite y → IsLess a b c y → a * denominator y + negative_part y * c < positive_part y * c + b * denominator y
 less_finite a b c nan f h = absurd f
 less_finite a b c (inf s) f h = absurd f
 less_finite a b c (fin s m e) f h = h
 
-pub more_finite : (a b c : ℕ) (y : Float) → IsFinite y → IsMore a b c y → positive_part y * c + b * denominator y < a * denominator y + negative_part y * c
-more_finite a b c nan f h = absurd f
-more_finite a b c (inf s) f h = absurd f
-more_finite a b c (fin s m e) f h = h
+pub at_least_finite : (a b c : ℕ) (y : Float) → IsFinite y → IsAtLeast a b c y → positive_part y * c + b * denominator y ≤ a * denominator y + negative_part y * c
+at_least_finite a b c nan f h = absurd f
+at_least_finite a b c (inf s) f h = absurd f
+at_least_finite a b c (fin s m e) f h = h
 
 -- ---- the error of one rounding
 
@@ -110,16 +110,16 @@ half_apart y p hi lo (suc n) e =
 
 -- ---- from a certified floor to the exact number
 
--- If u, which is c - 1/2 rounded, less n, which is T - M, is more than `least`, then c is more than n + 1/2 + least, but for
+-- If u, which is c - 1/2 rounded, less n, which is T - M, is at least `least`, then c is at least n + 1/2 + least, but for
 -- |c| + 1/2 parts in 2^53. The denominators are those of u, `least` and c.
-pub above_floor : (up un ud lp ln ld cp cn cd n m : ℕ) → 0 < ud → lp * ud + (un + n * ud) * ld < (up + m * ud) * ld + ln * ud
-    → 2 ^ 53 * (up * (cd * 2) + (cn * 2 + cd) * ud) ≤ 2 ^ 53 * (cp * 2 * ud + un * (cd * 2)) + (2 * cp + 2 * cn + cd) * ud → 0 < cd → 0 < ld
-    → 2 ^ 53 * (2 * cd * lp + 2 * cd * n * ld + (2 * cn + cd) * ld) < 2 ^ 53 * (2 * cd * m * ld + 2 * cd * ln + 2 * cp * ld) + (2 * cp + 2 * cn + cd) * ld
-above_floor up un ud lp ln ld cp cn cd n m UD f e CD LD =
-    let a : (lp * ud + (un + n * ud) * ld) * cd < ((up + m * ud) * ld + ln * ud) * cd = mul-lt-mul_of_pos_right f CD in
+pub above_floor : (up un ud lp ln ld cp cn cd n m : ℕ) → 0 < ud → lp * ud + (un + n * ud) * ld ≤ (up + m * ud) * ld + ln * ud
+    → 2 ^ 53 * (up * (cd * 2) + (cn * 2 + cd) * ud) ≤ 2 ^ 53 * (cp * 2 * ud + un * (cd * 2)) + (2 * cp + 2 * cn + cd) * ud
+    → 2 ^ 53 * (2 * cd * lp + 2 * cd * n * ld + (2 * cn + cd) * ld) ≤ 2 ^ 53 * (2 * cd * m * ld + 2 * cd * ln + 2 * cp * ld) + (2 * cp + 2 * cn + cd) * ld
+above_floor up un ud lp ln ld cp cn cd n m UD f e =
+    let a : (lp * ud + (un + n * ud) * ld) * cd ≤ ((up + m * ud) * ld + ln * ud) * cd = mul-le-mul_right cd f in
     let b = mul-le-mul_right ld e in
-    let c : 2 ^ 53 * (2 * cd * lp + 2 * cd * n * ld + (2 * cn + cd) * ld) * ud < (2 ^ 53 * (2 * cd * m * ld + 2 * cd * ln + 2 * cp * ld) + (2 * cp + 2 * cn + cd) * ld) * ud = omega arith in
-    lt_of_mul-lt-mul_right ud c
+    let c : 2 ^ 53 * (2 * cd * lp + 2 * cd * n * ld + (2 * cn + cd) * ld) * ud ≤ (2 ^ 53 * (2 * cd * m * ld + 2 * cd * ln + 2 * cp * ld) + (2 * cp + 2 * cn + cd) * ld) * ud = omega arith in
+    le_of_mul-le-mul_right c UD
 
 -- If it is less than `room`, then c is less than n + 1/2 + room, but for |c| + 1/2 parts in 2^53.
 pub below_floor : (up un ud rp rn rd cp cn cd n m : ℕ) → 0 < ud → (up + m * ud) * rd + rn * ud < rp * ud + (un + n * ud) * rd

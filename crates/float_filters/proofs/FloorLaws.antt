@@ -1,12 +1,13 @@
 -- Certified floors: the steps of `floors` in one lane.
 use Rattle.std.proofs.Common.{◌≡◌, ℕ, suc, ◌+◌, ◌-◌, ◌*◌, ◌/◌, ◌^◌, ◌<◌, ◌≤◌, true, false, T, refl, ap, ◌∙◌, arith, pos, negsuc, pow_pos, pow_mono, shl_lt, lt_of_not-le, lt_of_lt_of_le, lt_irrefl, div-one, mul-div_cancel, mul-le-mul_right, le_trans}
-use lib.Ieee.{Float, nan, inf, fin, binary64, size, add, sub, lt, fits, to_bits, of_bits}
-use lib.Ieee.Fits.{add-fits}
+use lib.Ieee.{Float, nan, inf, fin, binary64, size, add, sub, lt, le, fits, to_bits, of_bits}
+use lib.Ieee.Fits.{add-fits, sub-fits}
 use lib.Ieee.Digits.{size-lt, size-le}
 use Rattle.float_filters.specs.Near.{denominator}
 use Rattle.float_filters.specs.Floors.{positive_part, negative_part, IsFinite, IsDifference, half, middle, halved, IsInteger, IsCertified}
 use Rattle.float_filters.proofs.Differences.{IsRounded, adds, subtracts, same_rounded, whole_exact}
-use Rattle.float_filters.proofs.Comparisons.{own, denominator_pos, less_value, more_value, finite_rounded, rounded_at_most, rounded_at_least, rounded_above_minus, large_whole}
+use Rattle.float_filters.proofs.RestLaws.{integer_near, rest_exact}
+use Rattle.float_filters.proofs.Comparisons.{own, denominator_pos, less_value, at_least_value, finite_rounded, rounded_at_most, rounded_at_least, rounded_above_minus, large_whole}
 
 pub half_value : IsDifference half 1 0 2
 half_value = record { finite = tt; value = refl }
@@ -80,11 +81,11 @@ rest_rounded u w n f v =
     (subtracts u w (positive_part u) (negative_part u) (denominator u) n (3 * 2 ^ 51) 1 d (omega arith) (own u f) v)
 
 -- where both comparisons hold, the integer is certified
-pub certified : (p room least : Float) → IsFinite p → positive_part p ≤ 2 ^ 50 * denominator p → negative_part p ≤ 2 ^ 50 * denominator p → T (fits binary64 room) → T (fits binary64 least)
+pub certified : (p room least : Float) → IsFinite p → positive_part p ≤ 2 ^ 50 * denominator p → negative_part p ≤ 2 ^ 50 * denominator p → T (fits binary64 room)
     → T (lt (sub binary64 (halved p) (sub binary64 (add binary64 (halved p) middle) middle)) room)
-    → T (lt least (sub binary64 (halved p) (sub binary64 (add binary64 (halved p) middle) middle)))
+    → T (le least (sub binary64 (halved p) (sub binary64 (add binary64 (halved p) middle) middle)))
     → IsCertified p room least (add binary64 (halved p) middle)
-certified p room least f hi lo fr fl less more =
+certified p room least f hi lo fr less least_at_most =
     let u = halved p in
     let t = add binary64 u middle in
     let w = sub binary64 t middle in
@@ -95,11 +96,14 @@ certified p room least f hi lo fr fl less more =
     let low = rounded_above_minus u _ _ _ (2 ^ 50 + 1) (omega arith) (omega arith) r g (omega arith) in
     let i = raised_integer u g most low in
     let e = rest_rounded u w (positive_part t) g (lowered_value t (positive_part t) i) in
+    let U = denominator_pos u in
+    let near = integer_near t _ _ _ (positive_part t) U (omega arith) (omega arith) (raised_rounded u g most low) i in
+    let exact = rest_exact (sub binary64 u w) u (positive_part t) (3 * 2 ^ 51) (sub-fits binary64 p half) g near.0 near.1 e in
     record {
       integer = i;
       finite = g;
-      less = less_value _ _ _ (sub binary64 u w) room (denominator_pos u) e fr less;
-      more = more_value _ _ _ (sub binary64 u w) least (denominator_pos u) e fl more;
+      less = less_value _ _ _ (sub binary64 u w) room U e fr less;
+      at_least = at_least_value _ _ _ (sub binary64 u w) least exact least_at_most;
     }
 
 -- ---- the bits of an integer between 2^52 and 2^53

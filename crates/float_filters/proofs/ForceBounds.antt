@@ -110,15 +110,15 @@ close_low qn qd cn cd G A L le g c =
 -- ---- the margin
 
 -- From the bounds of a certified floor: least is m - 1/2 rounded, for m = mn / md.
-pub margin_above : (lp ln ld mn md cp cn cd n m : ℕ) → 0 < ld → 0 < cd
-    → 2 ^ 53 * (2 * cd * lp + 2 * cd * n * ld + (2 * cn + cd) * ld) < 2 ^ 53 * (2 * cd * m * ld + 2 * cd * ln + 2 * cp * ld) + (2 * cp + 2 * cn + cd) * ld
-    → 2 ^ 53 * (mn * 2 * ld + ln * (md * 2)) ≤ 2 ^ 53 * (lp * (md * 2) + md * ld) + (2 * mn + md) * ld → 0 < md
-    → 2 ^ 53 * (2 * cd * n * md + 2 * cn * md + 2 * mn * cd) < 2 ^ 53 * (2 * cd * m * md + 2 * cp * md) + (2 * cp + 2 * cn + cd) * md + (2 * mn + md) * cd
-margin_above lp ln ld mn md cp cn cd n m LD CD f e MD =
-    let a = mul-lt-mul_of_pos_right f MD in
+pub margin_above : (lp ln ld mn md cp cn cd n m : ℕ) → 0 < ld
+    → 2 ^ 53 * (2 * cd * lp + 2 * cd * n * ld + (2 * cn + cd) * ld) ≤ 2 ^ 53 * (2 * cd * m * ld + 2 * cd * ln + 2 * cp * ld) + (2 * cp + 2 * cn + cd) * ld
+    → 2 ^ 53 * (mn * 2 * ld + ln * (md * 2)) ≤ 2 ^ 53 * (lp * (md * 2) + md * ld) + (2 * mn + md) * ld
+    → 2 ^ 53 * (2 * cd * n * md + 2 * cn * md + 2 * mn * cd) ≤ 2 ^ 53 * (2 * cd * m * md + 2 * cp * md) + (2 * cp + 2 * cn + cd) * md + (2 * mn + md) * cd
+margin_above lp ln ld mn md cp cn cd n m LD f e =
+    let a = mul-le-mul_right md f in
     let b = mul-le-mul_right cd e in
-    let c : 2 ^ 53 * (2 * cd * n * md + 2 * cn * md + 2 * mn * cd) * ld < (2 ^ 53 * (2 * cd * m * md + 2 * cp * md) + (2 * cp + 2 * cn + cd) * md + (2 * mn + md) * cd) * ld = omega arith in
-    lt_of_mul-lt-mul_right ld c
+    let c : 2 ^ 53 * (2 * cd * n * md + 2 * cn * md + 2 * mn * cd) * ld ≤ (2 ^ 53 * (2 * cd * m * md + 2 * cp * md) + (2 * cp + 2 * cn + cd) * md + (2 * mn + md) * cd) * ld = omega arith in
+    le_of_mul-le-mul_right c LD
 
 -- room is 1/2 - m, rounded
 pub margin_below : (rp rn rd mn md cp cn cd n m : ℕ) → 0 < rd → 0 < cd
@@ -149,16 +149,17 @@ ratio_some qn qd G L G0 L0 h =
 
 -- The margin covers the bound of the force's error: n, which stands as n - m, plus the ratio times 1/2 and 12 (L + 1) parts in 2^53 is
 -- less than c, which stands as cp - cn.
-pub wide : (n m cp cn cd mn md qn qd L : ℕ) → 0 < md → 0 < qd
-    → 2 ^ 53 * (2 * cd * n * md + 2 * cn * md + 2 * mn * cd) < 2 ^ 53 * (2 * cd * m * md + 2 * cp * md) + (2 * cp + 2 * cn + cd) * md + (2 * mn + md) * cd
+pub wide : (n m cp cn cd mn md qn qd L : ℕ) → 0 < md → 0 < qd → 0 < cd
+    → 2 ^ 53 * (2 * cd * n * md + 2 * cn * md + 2 * mn * cd) ≤ 2 ^ 53 * (2 * cd * m * md + 2 * cp * md) + (2 * cp + 2 * cn + cd) * md + (2 * mn + md) * cd
     → qn * (2 ^ 53 - 1) * (5 * 2 ^ 52 + 63 * L) * md ≤ 2 ^ 108 * mn * qd → (cp + cn) * 2 ^ 53 * qd ≤ cd * qn * (L * 2 ^ 53 + 3 * L) → qd ≤ 2 * qn * L
     → 2 ^ 54 * (qd * cd * n) + 2 ^ 54 * (qd * cn) + (2 ^ 53 + 24 * (L + 1)) * (cd * qn) < 2 ^ 54 * (qd * cd * m) + 2 ^ 54 * (qd * cp)
-wide n m cp cn cd mn md qn qd L MD QD f s c q =
-    let halves : 2 ^ 53 * (cd * n * md) + 2 ^ 53 * (cn * md) + (2 ^ 53 - 1) * (mn * cd) < 2 ^ 53 * (cd * m * md) + 2 ^ 53 * (cp * md) + (cp + cn + cd) * md = omega arith in
-    let more = mul-lt-mul_of_pos_right halves QD in
+wide n m cp cn cd mn md qn qd L MD QD CD f s c q =
+    let P : 0 < qd * cd = mul-pos QD CD in
+    let halves : 2 ^ 53 * (cd * n * md) + 2 ^ 53 * (cn * md) + (2 ^ 53 - 1) * (mn * cd) ≤ 2 ^ 53 * (cd * m * md) + 2 ^ 53 * (cp * md) + (cp + cn + cd) * md = omega arith in
+    let more = mul-le-mul_right qd halves in
     let size = mul-le-mul_right ((2 ^ 53 - 1) * cd) s in
-    let b : (2 ^ 161 * (qd * cd * n) + 2 ^ 161 * (qd * cn) + (2 ^ 53 - 1) * (2 ^ 53 - 1) * (5 * 2 ^ 52 + 63 * L) * (cd * qn)) * md < (2 ^ 161 * (qd * cd * m) + 2 ^ 161 * (qd * cp) + 2 ^ 108 * (qd * (cp + cn + cd))) * md = omega arith in
-    let a : 2 ^ 161 * (qd * cd * n) + 2 ^ 161 * (qd * cn) + (2 ^ 53 - 1) * (2 ^ 53 - 1) * (5 * 2 ^ 52 + 63 * L) * (cd * qn) < 2 ^ 161 * (qd * cd * m) + 2 ^ 161 * (qd * cp) + 2 ^ 108 * (qd * (cp + cn + cd)) = lt_of_mul-lt-mul_right md b in
+    let b : (2 ^ 161 * (qd * cd * n) + 2 ^ 161 * (qd * cn) + (2 ^ 53 - 1) * (2 ^ 53 - 1) * (5 * 2 ^ 52 + 63 * L) * (cd * qn)) * md ≤ (2 ^ 161 * (qd * cd * m) + 2 ^ 161 * (qd * cp) + 2 ^ 108 * (qd * (cp + cn + cd))) * md = omega arith in
+    let a : 2 ^ 161 * (qd * cd * n) + 2 ^ 161 * (qd * cn) + (2 ^ 53 - 1) * (2 ^ 53 - 1) * (5 * 2 ^ 52 + 63 * L) * (cd * qn) ≤ 2 ^ 161 * (qd * cd * m) + 2 ^ 161 * (qd * cp) + 2 ^ 108 * (qd * (cp + cn + cd)) = le_of_mul-le-mul_right b MD in
     let d = mul-le-mul_right cd q in
     omega arith
 

@@ -1,5 +1,5 @@
 -- A component of a force whose certified floor is sure is the exact component, rounded down.
-use Rattle.std.proofs.Common.{◌≡◌, ℕ, zero, suc, ◌+◌, ◌-◌, ◌*◌, ◌^◌, ◌<◌, ◌≤◌, Bool, true, false, cond, T, ℤ, pos, negsuc, ◌-ℤ◌, ◌*ℤ◌, neg_ℤ, refl, sym, ap, ◌∙◌, subst, arith, inl, inr, mul-le-mul_right, mul-le-mul, le_of_mul-le-mul_right, lt_of_mul-lt-mul_right, mul-pos, lt-ltb, le-ltb, true≢false, lt_of_not-le, le_of_suc-le-suc}
+use Rattle.std.proofs.Common.{◌≡◌, ℕ, zero, suc, ◌+◌, ◌-◌, ◌*◌, ◌^◌, ◌<◌, ◌≤◌, Bool, true, false, cond, T, ℤ, pos, negsuc, ◌-ℤ◌, ◌*ℤ◌, neg_ℤ, refl, sym, ap, ◌∙◌, subst, arith, inl, inr, mul-le-mul_right, mul-le-mul, le_of_mul-le-mul_right, lt_of_mul-lt-mul_right, mul-pos, lt-ltb, le-ltb, true≢false, lt_of_not-le, le_of_lt, le_of_suc-le-suc}
 use Rattle.std.proofs.lemmas.Int.{ints}
 use lib.Ieee.{Float, nan, inf, fin, binary64, round, neg, lt, mul, sub, fits, unlike, up, down}
 use lib.Ieee.Fits.{mul-fits, sub-fits}
@@ -16,7 +16,7 @@ use Rattle.float_filters.proofs.FloatLaws.{round_near, near_product, near_quotie
 use Rattle.float_filters.proofs.Differences.{IsSigned, IsRounded, subtracts, same_rounded, from_value}
 use Rattle.float_filters.proofs.Comparisons.{own, denominator_pos, less_value}
 use Rattle.float_filters.proofs.FloorLaws.{half_value, halved_rounded}
-use Rattle.float_filters.proofs.ErrorLaws.{not_negative, not_positive, signed_finite, less_finite, more_finite, rounding_error, half_apart, above_floor, below_floor}
+use Rattle.float_filters.proofs.ErrorLaws.{not_negative, not_positive, signed_finite, less_finite, at_least_finite, rounding_error, half_apart, above_floor, below_floor}
 use Rattle.float_filters.proofs.ForceBounds.{root_high, root_low, below_root, slope_high, slope_low, part_low, part_high, close_high, close_low, margin_above, margin_below, margin_size, ratio_some, wide, floor_above, floor_below}
 
 -- ---- the divisor r - 1/2
@@ -361,7 +361,7 @@ IsDecided true T G A L = IsDecidedBelow T G A L
 
 -- what a certified floor says of c and the margin: n and c, which stand as T - 3 * 2^51 and cp - cm
 pub record IsWithin (T cp cm cd mn md : ℕ) : Type 0 where
-  pub above : 2 ^ 53 * (2 * cd * T * md + 2 * cm * md + 2 * mn * cd) < 2 ^ 53 * (2 * cd * (3 * 2 ^ 51) * md + 2 * cp * md) + (2 * cp + 2 * cm + cd) * md + (2 * mn + md) * cd
+  pub above : 2 ^ 53 * (2 * cd * T * md + 2 * cm * md + 2 * mn * cd) ≤ 2 ^ 53 * (2 * cd * (3 * 2 ^ 51) * md + 2 * cp * md) + (2 * cp + 2 * cm + cd) * md + (2 * mn + md) * cd
   pub below : 2 ^ 53 * (2 * cd * (3 * 2 ^ 51) * md + 2 * cp * md + 2 * mn * cd) < 2 ^ 53 * (2 * cd * (T + 1) * md + 2 * cm * md) + (2 * cm + 2 * cp + cd) * md + (2 * mn + md) * cd
 
 sides : (s : Bool) (c : Float) → HasSign s c → positive_part c + negative_part c ≡ numerator c
@@ -382,12 +382,12 @@ within s c m t sign fc bounds small cert =
     let sums = sides s c sign in
     let eu = rounding_error u (cp * 2) (cm * 2 + cd) (cd * 2) B (omega arith) (halved_rounded c f) (omega arith) (omega arith)
     (half_apart c fc (omega (arith, sums)) (omega (arith, sums))) in
-    let more = more_finite _ _ _ (halved m) bounds.least_finite cert.more in
+    let least = at_least_finite _ _ _ (halved m) bounds.least_finite cert.at_least in
     let less = less_finite _ _ _ (sub binary64 half m) bounds.room_finite cert.less in
-    let above = above_floor (positive_part u) (negative_part u) (denominator u) _ _ _ cp cm cd (positive_part t) (3 * 2 ^ 51) (denominator_pos u) more eu.high CD (denominator_pos (halved m)) in
+    let above = above_floor (positive_part u) (negative_part u) (denominator u) _ _ _ cp cm cd (positive_part t) (3 * 2 ^ 51) (denominator_pos u) least eu.high in
     let below = below_floor (positive_part u) (negative_part u) (denominator u) _ _ _ cp cm cd (positive_part t) (3 * 2 ^ 51) (denominator_pos u) less eu.low CD (denominator_pos (sub binary64 half m)) in
     record {
-      above = margin_above _ _ _ (numerator m) (denominator m) cp cm cd (positive_part t) (3 * 2 ^ 51) (denominator_pos (halved m)) CD above bounds.least_low MD;
+      above = margin_above _ _ _ (numerator m) (denominator m) cp cm cd (positive_part t) (3 * 2 ^ 51) (denominator_pos (halved m)) above bounds.least_low;
       below = margin_below _ _ _ (numerator m) (denominator m) cp cm cd (positive_part t) (3 * 2 ^ 51) (denominator_pos (sub binary64 half m)) CD below bounds.room_high MD;
     }
 
@@ -404,8 +404,8 @@ decided s sr L A G q c m t L0 le ratio part margin fc bounds small cert =
     let both = within s c m t part.sign fc bounds small cert in
     let first = total (cp + cm) (numerator c) (denominator q) cd (numerator q) A L sums le part.high in
     let second = total (cm + cp) (numerator c) (denominator q) cd (numerator q) A L (swap cp cm ∙ sums) le part.high in
-    let low = wide (positive_part t) (3 * 2 ^ 51) cp cm cd (numerator m) (denominator m) (numerator q) (denominator q) L MD QD both.above margin.size first ratio.some in
-    let high = wide (3 * 2 ^ 51) (positive_part t + 1) cm cp cd (numerator m) (denominator m) (numerator q) (denominator q) L MD QD both.below margin.size second ratio.some in
+    let low = wide (positive_part t) (3 * 2 ^ 51) cp cm cd (numerator m) (denominator m) (numerator q) (denominator q) L MD QD CD both.above margin.size first ratio.some in
+    let high = wide (3 * 2 ^ 51) (positive_part t + 1) cm cp cd (numerator m) (denominator m) (numerator q) (denominator q) L MD QD CD (le_of_lt both.below) margin.size second ratio.some in
     let near = close_high (numerator q) (denominator q) (numerator c) cd G A L le ratio.high part.low in
     let far = close_low (numerator q) (denominator q) (numerator c) cd G A L le ratio.low part.high in
     finish s (positive_part t) cp cm cd (numerator q) (denominator q) (numerator c) G A L CD QD L0 (signs s c part.sign) low high near far
@@ -446,6 +446,9 @@ floor_of_below T n A L h =
     let w = h.floor.0 in
     let e : pos T -ℤ pos (3 * 2 ^ 51) ≡ negsuc w = omega (arith, ints, h.floor.1) in
     rw e (record { at_most = omega (arith, ints, h.floor.3); next_above = omega (arith, ints, h.floor.2) })
+
+zero_turned : (n : ℕ) → pos (0 * n) ≡ neg_ℤ (pos (0 * n))
+zero_turned n = omega (arith, ints)
 
 -- ---- a force that isn't 0
 
@@ -547,22 +550,22 @@ half_above y a b c C e r = by q.0 q.1 q.2 q.3
         let v : HasValue (round binary64 false 1 2) false 1 2 = round_exact binary64 false 1 2 1 1073 (omega arith) (omega arith) (omega arith) (omega arith) in
         subst (λ (z : Float). IsDifference z 1 0 2) (sym (is ∙ ap (λ (k : ℕ). round binary64 false k 2) one)) (from_value _ false 1 2 1 0 v (omega arith))
 
--- no integer is certified between -1/2 and 1/2, both left out
-none_certified : (up un ud lp ln ld rp rn rd n m : ℕ) → 0 < ud → 0 < ld → 0 < rd → up * 2 + 1 * ud ≡ 0 * ud + un * 2 → lp * 2 + 1 * ld ≡ 0 * ld + ln * 2 → rp * 2 + 0 * rd ≡ 1 * rd + rn * 2
-    → lp * ud + (un + n * ud) * ld < (up + m * ud) * ld + ln * ud → (up + m * ud) * rd + rn * ud < rp * ud + (un + n * ud) * rd → ⊥
-none_certified up un ud lp ln ld rp rn rd n m UD LD RD u l r more less =
+-- the only integer certified from -1/2 to 1/2, the latter left out, is 0
+zero_between : (up un ud lp ln ld rp rn rd n m : ℕ) → 0 < ud → 0 < ld → 0 < rd → up * 2 + 1 * ud ≡ 0 * ud + un * 2 → lp * 2 + 1 * ld ≡ 0 * ld + ln * 2 → rp * 2 + 0 * rd ≡ 1 * rd + rn * 2
+    → lp * ud + (un + n * ud) * ld ≤ (up + m * ud) * ld + ln * ud → (up + m * ud) * rd + rn * ud < rp * ud + (un + n * ud) * rd → n ≡ m
+zero_between up un ud lp ln ld rp rn rd n m UD LD RD u l r least less =
     let a = ap (λ (k : ℕ). k * ld) u in
     let b = ap (λ (k : ℕ). k * ud) l in
-    let c : n * (ud * ld) < m * (ud * ld) = omega arith in
-    let below : n < m = lt_of_mul-lt-mul_right (ud * ld) c in
+    let c : n * (ud * ld) ≤ m * (ud * ld) = omega arith in
+    let below : n ≤ m = le_of_mul-le-mul_right c (mul-pos UD LD) in
     let d = ap (λ (k : ℕ). k * rd) u in
     let e = ap (λ (k : ℕ). k * ud) r in
     let f : m * (ud * rd) < (n + 1) * (ud * rd) = omega arith in
     let above : m < n + 1 = lt_of_mul-lt-mul_right (ud * rd) f in
     omega arith
 
-none_at_zero : (s : Bool) (c m t : Float) → HasSign s c → numerator c ≡ 0 → HasSign false m → numerator m ≡ 0 → IsCertified c (sub binary64 half m) (halved m) t → ⊥
-none_at_zero s c m t hc zc hm zm cert =
+zero_certified : (s : Bool) (c m t : Float) → HasSign s c → numerator c ≡ 0 → HasSign false m → numerator m ≡ 0 → IsCertified c (sub binary64 half m) (halved m) t → positive_part t ≡ 3 * 2 ^ 51
+zero_certified s c m t hc zc hm zm cert =
     let C = denominator_pos c in
     let M = denominator_pos m in
     let pc = parts_zero s c hc zc in
@@ -572,18 +575,18 @@ none_at_zero s c m t hc zc hm zm cert =
     let u = half_below (halved c) _ _ (denominator c * 2) (omega arith) (omega (arith, pc)) (halved_rounded c fc) in
     let l = half_below (halved m) _ _ (denominator m * 2) (omega arith) (omega (arith, pm)) (halved_rounded m fm) in
     let r = half_above (sub binary64 half m) _ _ (denominator m * 2) (omega arith) (omega (arith, pm)) (room_rounded m fm) in
-    none_certified _ _ _ _ _ _ _ _ _ (positive_part t) (3 * 2 ^ 51) (denominator_pos (halved c)) (denominator_pos (halved m)) (denominator_pos (sub binary64 half m)) u.value l.value r.value
-    (more_finite _ _ _ (halved m) l.finite cert.more) (less_finite _ _ _ (sub binary64 half m) r.finite cert.less)
+    zero_between _ _ _ _ _ _ _ _ _ (positive_part t) (3 * 2 ^ 51) (denominator_pos (halved c)) (denominator_pos (halved m)) (denominator_pos (sub binary64 half m)) u.value l.value r.value
+    (at_least_finite _ _ _ (halved m) l.finite cert.at_least) (less_finite _ _ _ (sub binary64 half m) r.finite cert.less)
   where
     parts_zero : (s : Bool) (y : Float) → HasSign s y → numerator y ≡ 0 → (positive_part y ≡ 0) × (negative_part y ≡ 0)
     parts_zero false y h z = let e = not_negative y h in (e.0 ∙ z, e.1)
     parts_zero true y h z = let e = not_positive y h in (e.0, e.1 ∙ z)
 
-force_none : (s L : ℕ) (sx : Bool) (size r x slack t : Float) → 0 < L → L ≤ 2 ^ 56 → L * L ≤ s → s < (L + 1) * (L + 1)
+force_none : (s L A : ℕ) (sx : Bool) (size r x slack t : Float) → 0 < L → L ≤ 2 ^ 56 → L * L ≤ s → s < (L + 1) * (L + 1)
     → IsNearRoot 7 r s 1 → IsNearSigned 0 false size 0 1 → HasSign sx x → HasSign false slack
     → (IsFinite (float_component_of size r x) → positive_part (float_component_of size r x) ≤ 2 ^ 50 * denominator (float_component_of size r x) → negative_part (float_component_of size r x) ≤ 2 ^ 50 * denominator (float_component_of size r x)
-    → IsCertified (float_component_of size r x) (room_of size r slack) (least_of size r slack) t) → ⊥
-force_none s L sx size r x slack t L0 Lm below above length slope hx hs cert =
+    → IsCertified (float_component_of size r x) (room_of size r slack) (least_of size r slack) t) → IsInteger t (positive_part t) × IsDecidedAbove (positive_part t) 0 A L
+force_none s L A sx size r x slack t L0 Lm below above length slope hx hs cert =
     let q = ratio_of size r in
     let d = divisor_is s L r L0 Lm below above length in
     let ratio = zero_ratio size r slope d.0 d.1 in
@@ -591,7 +594,9 @@ force_none s L sx size r x slack t L0 Lm below above length slope hx hs cert =
     let e = magnitude_zero q ratio.0 in
     let m = zero_product false (magnitude q) slack (subst (HasSign false) (sym e) ratio.0) (ap numerator e ∙ ratio.1) hs in
     let z = c.1 in
-    none_at_zero _ (float_component_of size r x) (margin_of size r slack) t c.0 c.1 m.0 m.1 (certify _ (float_component_of size r x) (room_of size r slack) (least_of size r slack) t c.0 (omega arith) cert)
+    let sure = certify _ (float_component_of size r x) (room_of size r slack) (least_of size r slack) t c.0 (omega arith) cert in
+    let middle = zero_certified _ (float_component_of size r x) (margin_of size r slack) t c.0 c.1 m.0 m.1 sure in
+    (sure.integer, record { floor = (0, middle, omega arith, omega arith) })
 
 -- ---- any force
 
@@ -614,8 +619,12 @@ force_lane s g a size r x slack t exact line order cert = by g a exact line
     few p = le_of_suc-le-suc (lt_of_not-le (λ (k : suc (2 ^ 56) ≤ root s). let h = mul-le-mul k k in let e = is.square_le in absurd (omega arith)))
 
     by : (g a : ℤ) → IsSize g size → IsLine s a r x slack → IsInteger t (positive_part t) × IsFloor (g *ℤ a) (pos (root s)) (pos (positive_part t) -ℤ pos (3 * 2 ^ 51))
-    by (pos zero) (pos n) z l = absurd (force_none s (root s) false size r x slack t (some l.some) (few l.short) is.square_le above l.length_near z.exact l.part_near.sign l.enough.sign cert)
-    by (pos zero) (negsuc n) z l = absurd (force_none s (root s) true size r x slack t (some l.some) (few l.short) is.square_le above l.length_near z.exact l.part_near.sign l.enough.sign cert)
+    by (pos zero) (pos n) z l =
+        let d = force_none s (root s) n false size r x slack t (some l.some) (few l.short) is.square_le above l.length_near z.exact l.part_near.sign l.enough.sign cert in
+        (d.0, subst (λ (z : ℤ). IsFloor z (pos (root s)) (pos (positive_part t) -ℤ pos (3 * 2 ^ 51))) (sym (pos-*ℤ-pos zero n)) (floor_of_above (positive_part t) zero n (root s) d.1))
+    by (pos zero) (negsuc n) z l =
+        let d = force_none s (root s) (suc n) true size r x slack t (some l.some) (few l.short) is.square_le above l.length_near z.exact l.part_near.sign l.enough.sign cert in
+        (d.0, subst (λ (z : ℤ). IsFloor z (pos (root s)) (pos (positive_part t) -ℤ pos (3 * 2 ^ 51))) (zero_turned (suc n) ∙ sym (pos-*ℤ-negsuc zero n)) (floor_of_above (positive_part t) zero (suc n) (root s) d.1))
     by (pos (suc m)) (pos n) z l =
         let d = force_some s (root s) n (suc m) false false size r x slack t (some l.some) (few l.short) is.square_le above l.side (omega arith) z.small l.length_near z.exact l.part_near l.enough order cert in
         (d.0, subst (λ (z : ℤ). IsFloor z (pos (root s)) (pos (positive_part t) -ℤ pos (3 * 2 ^ 51))) (sym (pos-*ℤ-pos (suc m) n)) (floor_of_above (positive_part t) (suc m) n (root s) d.1))

@@ -13,6 +13,7 @@ pub mod FloorLaws
 pub mod VectorLaws
 pub mod ForceBounds
 pub mod ErrorLaws
+pub mod RestLaws
 pub mod ForceLaws
 pub mod OppositeLaws
 pub mod MarginLaws

@@ -106,13 +106,13 @@ slack_is limit s f le some most near =
 
 -- a margin of at least 2^-49 of a number leaves 2^-50 of it after the roundings
 distance_low : (T n pn pd mn md : ℕ) → T ≡ n + 3 * 2 ^ 51 → 0 < n → 0 < md → mn ≤ md → 15 * (pn * md) ≤ 2 ^ 53 * (mn * pd)
-    → 2 ^ 53 * (2 * pd * T * md + 2 * 0 * md + 2 * mn * pd) < 2 ^ 53 * (2 * pd * (3 * 2 ^ 51) * md + 2 * pn * md) + (2 * pn + 2 * 0 + pd) * md + (2 * mn + md) * pd
+    → 2 ^ 53 * (2 * pd * T * md + 2 * 0 * md + 2 * mn * pd) ≤ 2 ^ 53 * (2 * pd * (3 * 2 ^ 51) * md + 2 * pn * md) + (2 * pn + 2 * 0 + pd) * md + (2 * mn + md) * pd
     → (n * (2 ^ 53 * pd) + 8 * pn ≤ 2 ^ 53 * pn) × (pd ≤ 2 * pn)
 distance_low T n pn pd mn md e N MD le m h =
     let t : T * (pd * md) ≡ (n + 3 * 2 ^ 51) * (pd * md) = ap (λ (k : ℕ). k * (pd * md)) e in
     let l : mn * pd ≤ md * pd = mul-le-mul_right pd le in
-    let a : (2 ^ 54 * (n * pd) + 28 * pn) * md < (2 ^ 54 * pn + 4 * pd) * md = omega arith in
-    let b : 2 ^ 54 * (n * pd) + 28 * pn < 2 ^ 54 * pn + 4 * pd = lt_of_mul-lt-mul_right md a in
+    let a : (2 ^ 54 * (n * pd) + 28 * pn) * md ≤ (2 ^ 54 * pn + 4 * pd) * md = omega arith in
+    let b : 2 ^ 54 * (n * pd) + 28 * pn ≤ 2 ^ 54 * pn + 4 * pd = le_of_mul-le-mul_right a MD in
     let one : 1 * pd ≤ n * pd = mul-le-mul_right pd N in
     let c : pd ≤ 2 * pn = omega arith in
     (omega arith, c)

@@ -52,10 +52,10 @@ nearest_high n u w r Ordering.gt l e h = up (suc w * u) refl
     up : (x : ℕ) → suc w * u ≡ x → 2 * n ≤ 2 * x + u
     up x g = omega (arith, suc-mul w u)
 
-closest_low : (n u : ℕ) → 2 * (closest n u * u) ≤ 2 * n + u
+pub closest_low : (n u : ℕ) → 2 * (closest n u * u) ≤ 2 * n + u
 closest_low n u = nearest_low n u (n / u) (n % u) _ (div-add-mod' n u) (compared (n % u * 2) u)
 
-closest_high : (n u : ℕ) → 0 < u → 2 * n ≤ 2 * (closest n u * u) + u
+pub closest_high : (n u : ℕ) → 0 < u → 2 * n ≤ 2 * (closest n u * u) + u
 closest_high n u p = nearest_high n u (n / u) (n % u) _ (mod-lt n p) (div-add-mod' n u) (compared (n % u * 2) u)
 
 -- ---- the unit of the last digit
@@ -130,7 +130,7 @@ denominator_positive (inf s) = pow_pos 0
 denominator_positive (fin s m e) = down_pos e
 
 -- a float's sign, and its magnitude as a fraction
-value_parts : (x : Float) (s : Bool) (a c : ℕ) → HasValue x s a c → HasSign s x × (numerator x * c ≡ a * denominator x)
+pub value_parts : (x : Float) (s : Bool) (a c : ℕ) → HasValue x s a c → HasSign s x × (numerator x * c ≡ a * denominator x)
 value_parts nan s a c h = absurd h
 value_parts (inf t) s a c h = absurd h
 value_parts (fin t m e) s a c h = (h.0, h.1)

@@ -48,15 +48,16 @@ less_set (x ∷ xs) [] k h = absurd (omega arith)
 less_set (x ∷ xs) (y ∷ ys) zero h = chosen (lt x y) (kept _ h)
 less_set (x ∷ xs) (y ∷ ys) (suc k) h = less_set xs ys k h
 
--- the lanes that are at least a number
-at_least_each : (ys xs : List Float) (k : ℕ) → IsSet (map (to_z w64) (zip2 (λ a b. cond (le a b) (2 ^ 64 - 1) 0) ys xs)) k → T (le (lane ys k) (lane xs k))
-at_least_each [] xs k h = absurd (omega arith)
-at_least_each (y ∷ ys) [] k h = absurd (omega arith)
-at_least_each (y ∷ ys) (x ∷ xs) zero h = chosen (le y x) (kept _ h)
-at_least_each (y ∷ ys) (x ∷ xs) (suc k) h = at_least_each ys xs k h
+-- the lanes in which one vector is at most another
+pub at_most_set : (ys xs : List Float) (k : ℕ) → IsSet (map (to_z w64) (zip2 (λ a b. cond (le a b) (2 ^ 64 - 1) 0) ys xs)) k → T (le (lane ys k) (lane xs k))
+at_most_set [] xs k h = absurd (omega arith)
+at_most_set (y ∷ ys) [] k h = absurd (omega arith)
+at_most_set (y ∷ ys) (x ∷ xs) zero h = chosen (le y x) (kept _ h)
+at_most_set (y ∷ ys) (x ∷ xs) (suc k) h = at_most_set ys xs k h
 
+-- the lanes that are at least a number
 pub at_least_set : (xs : List Float) (y : Float) (k : ℕ) → k < 4 → IsSet (map (to_z w64) (zip2 (λ a b. cond (le a b) (2 ^ 64 - 1) 0) (y ∷ y ∷ y ∷ y ∷ []) xs)) k → T (le y (lane xs k))
-at_least_set xs y k l h = subst (λ (z : Float). T (le z (lane xs k))) (get_or-replicate 4 k y nan l) (at_least_each (replicate 4 y) xs k h)
+at_least_set xs y k l h = subst (λ (z : Float). T (le z (lane xs k))) (get_or-replicate 4 k y nan l) (at_most_set (replicate 4 y) xs k h)
 
 -- the lanes that are set in both masks
 pub both_set : (ms ns : List ℤ) (k : ℕ) → IsSet (map (to_z w64) (zip2 bit_and (map (of_z w64) ms) (map (of_z w64) ns))) k → IsSet ms k × IsSet ns k
@@ -73,14 +74,14 @@ set_again (m ∷ ms) (suc k) h = set_again ms k h
 
 -- the steps of `floors` in one lane, by the results of the operations
 pub certified_lane : (p room least u t w e : Float) → u ≡ sub binary64 p (of_bits binary64 4602678819172646912) → t ≡ add binary64 u (of_bits binary64 4843621399236968448) → w ≡ sub binary64 t (of_bits binary64 4843621399236968448)
-    → e ≡ sub binary64 u w → IsFinite p → positive_part p ≤ 2 ^ 50 * denominator p → negative_part p ≤ 2 ^ 50 * denominator p → T (fits binary64 room) → T (fits binary64 least) → T (lt e room) → T (lt least e)
+    → e ≡ sub binary64 u w → IsFinite p → positive_part p ≤ 2 ^ 50 * denominator p → negative_part p ≤ 2 ^ 50 * denominator p → T (fits binary64 room) → T (lt e room) → T (le least e)
     → IsCertified p room least t
-certified_lane p room least u t w e a b c d number hi lo fr fl x y =
+certified_lane p room least u t w e a b c d number hi lo fr x y =
     let u' : u ≡ halved p = a ∙ ap (sub binary64 p) half_is in
     let t' : t ≡ add binary64 (halved p) middle = b ∙ (λ i. add binary64 (u' i) (middle_is i)) in
     let w' : w ≡ sub binary64 (add binary64 (halved p) middle) middle = c ∙ (λ i. sub binary64 (t' i) (middle_is i)) in
     let e' : e ≡ sub binary64 (halved p) (sub binary64 (add binary64 (halved p) middle) middle) = d ∙ (λ i. sub binary64 (u' i) (w' i)) in
-    subst (λ (z : Float). IsCertified p room least z) (sym t') (certified p room least number hi lo fr fl (subst (λ (z : Float). T (lt z room)) e' x) (subst (λ (z : Float). T (lt least z)) e' y))
+    subst (λ (z : Float). IsCertified p room least z) (sym t') (certified p room least number hi lo fr (subst (λ (z : Float). T (lt z room)) e' x) (subst (λ (z : Float). T (le least z)) e' y))
 
 -- where the comparison of the rest holds, the integer is a number
 no_rest : (u y : Float) → is_nan (sub binary64 u (sub binary64 nan y)) ≡ true

@@ -34,12 +34,12 @@ IsLess a b c (inf s) = s ≡ false
 IsLess a b c (fin s m e) =
     a * denominator (fin s m e) + negative_part (fin s m e) * c < positive_part (fin s m e) * c + b * denominator (fin s m e)
 
--- (a - b) / c is more than the float, for a positive c
-abbrev pub IsMore : ℕ → ℕ → ℕ → Float → Type 0
-IsMore a b c nan = ⊥
-IsMore a b c (inf s) = s ≡ true
-IsMore a b c (fin s m e) =
-    positive_part (fin s m e) * c + b * denominator (fin s m e) < a * denominator (fin s m e) + negative_part (fin s m e) * c
+-- (a - b) / c is at least the float, for a positive c
+abbrev pub IsAtLeast : ℕ → ℕ → ℕ → Float → Type 0
+IsAtLeast a b c nan = ⊥
+IsAtLeast a b c (inf s) = s ≡ true
+IsAtLeast a b c (fin s m e) =
+    positive_part (fin s m e) * c + b * denominator (fin s m e) ≤ a * denominator (fin s m e) + negative_part (fin s m e) * c
 
 -- ---- lanes
 
@@ -79,13 +79,13 @@ middle = fin false 3 (pos 51)
 abbrev pub halved : Float → Float
 halved p = sub binary64 p half
 
--- for the integer n = t - 3 * 2^51 and u, which is p - 1/2 rounded, u - n is more than `least` and less than `room`
+-- for the integer n = t - 3 * 2^51 and u, which is p - 1/2 rounded, u - n is at least `least` and less than `room`
 pub record IsCertified (p room least t : Float) : Type 0 where
   pub integer : IsInteger t (positive_part t)
   pub finite : IsFinite (halved p)
   pub less : IsLess (positive_part (halved p) + 3 * 2 ^ 51 * denominator (halved p))
       (negative_part (halved p) + positive_part t * denominator (halved p)) (denominator (halved p)) room
-  pub more : IsMore (positive_part (halved p) + 3 * 2 ^ 51 * denominator (halved p))
+  pub at_least : IsAtLeast (positive_part (halved p) + 3 * 2 ^ 51 * denominator (halved p))
       (negative_part (halved p) + positive_part t * denominator (halved p)) (denominator (halved p)) least
 
 -- In a lane that is set, t is a number, `least` is less than `room`, and t is certified if p is finite and at most 2^50

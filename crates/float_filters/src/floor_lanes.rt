@@ -7,7 +7,7 @@ ghost use Rattle.std.specs.Prelude.{◌≡◌, ℕ, pos, ◌+◌, ◌-◌, ◌*�
 ghost use Rattle.std.specs.Float.{NotNan};
 ghost use Rattle.float_filters.specs.Floors.{AreCertified, IsInteger, lane};
 
-use crate::vectors::{both, differences, less, minus, plus};
+use crate::vectors::{at_most, both, differences, less, minus, plus};
 use std::simd::prelude::*;
 
 // 3 * 2^51 and its bit pattern. Floats near it are integers, and their bit patterns are consecutive.
@@ -17,7 +17,7 @@ const PATTERN_OF_MIDDLE: u64 = 0x4338_0000_0000_0000;
 
 /// Floats that hold integers next to the floors of four numbers, each plus 3 * 2^51, and a mask.
 ///
-/// In a lane that is set, `p - 1/2`, rounded, minus the integer is more than `least` and less than `room`. So the
+/// In a lane that is set, `p - 1/2`, rounded, minus the integer is at least `least` and less than `room`. So the
 /// integer is the floor of each number that is nearer to `p` than the bounds are to -1/2 and 1/2; `p` is at most 2^50
 /// in magnitude. A lane is not set if `p` or a bound is a NaN.
 #[inline(always)]
@@ -27,7 +27,7 @@ pub fn floors(p: f64x4, room: f64x4, least: f64x4) -> (f64x4, Mask<i64, 4>)
     let u = minus(p, 0.5);
     let t = plus(u, MIDDLE);
     let e = differences(u, minus(t, MIDDLE));
-    (t, both(less(e, room), less(least, e)))
+    (t, both(less(e, room), at_most(least, e)))
 }
 
 /// The bit patterns of four floats, counted from the pattern of `MIDDLE`.

@@ -138,8 +138,8 @@ pub struct FourForces {
 /// The forces of minus four slopes along lines with these lengths and components, rounded down; none if a component
 /// isn't sure. The slack is that of `force_slack`.
 ///
-/// The contract leaves open when there are none; this only decides how often the exact form runs. A slope of 0 is never
-/// sure, nor is one of 2^51 or more in magnitude.
+/// The contract leaves open when there are none; this only decides how often the exact form runs. A slope of 2^51 or
+/// more in magnitude is never sure.
 #[inline(always)]
 pub fn forces(
     slopes: [i64; 4],

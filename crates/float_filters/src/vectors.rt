@@ -79,6 +79,14 @@ pub(crate) fn less(x: f64x4, y: f64x4) -> Mask<i64, 4>
     x.simd_lt(y)
 }
 
+/// The lanes in which `x` is at most `y`.
+#[inline(always)]
+pub(crate) fn at_most(x: f64x4, y: f64x4) -> Mask<i64, 4>
+    ensures { (k : ℕ) → k < 4 → IsSet result k → T (le (lane x k) (lane y k)) }
+{
+    x.simd_le(y)
+}
+
 /// The lanes that are at least `y`.
 #[inline(always)]
 pub(crate) fn are_at_least(x: f64x4, y: f64) -> Mask<i64, 4>

@@ -1,5 +1,5 @@
 use Rattle.std.proofs.Common.{T, arith}
-use Rattle.std.proofs.lemmas.Float.{lt_trans}
+use Rattle.std.proofs.lemmas.Float.{lt_of_le_of_lt}
 use Rattle.std.proofs.lemmas.Simd.{Each1-get_or}
 use lib.Ieee.{Float, nan, fits, binary64}
 use Rattle.float_filters.proofs.VectorLaws.{certified_lane, number_lane, set_again}
@@ -12,11 +12,10 @@ returns c = record {
       number_lane _ _ _ _ _ _ (c.minus.ensures.each k l) (c.differences-e.ensures.each k l) (c.less.ensures k l (set_again c.less.result k b.0));
   ordered = λ k l s.
       let b = c.both.ensures k l (set_again c.both.result k s) in
-      lt_trans _ _ _ (c.less-2.ensures k l (set_again c.less-2.result k b.1)) (c.less.ensures k l (set_again c.less.result k b.0));
+      lt_of_le_of_lt _ _ _ (c.at_most.ensures k l (set_again c.at_most.result k b.1)) (c.less.ensures k l (set_again c.less.result k b.0));
   each = λ k l s number hi lo.
       let b = c.both.ensures k l (set_again c.both.result k s) in
       let fr = Each1-get_or (λ (a : Float). T (fits binary64 a)) c.args.room k nan (omega (arith, c.fits-room.0)) c.fits-room.1 in
-      let fl = Each1-get_or (λ (a : Float). T (fits binary64 a)) c.args.least k nan (omega (arith, c.fits-least.0)) c.fits-least.1 in
       certified_lane _ _ _ _ _ _ _ (c.minus-u.ensures.each k l) (c.plus-t.ensures.each k l) (c.minus.ensures.each k l) (c.differences-e.ensures.each k l)
-      number hi lo fr fl (c.less.ensures k l (set_again c.less.result k b.0)) (c.less-2.ensures k l (set_again c.less-2.result k b.1));
+      number hi lo fr (c.less.ensures k l (set_again c.less.result k b.0)) (c.at_most.ensures k l (set_again c.at_most.result k b.1));
 }
