@@ -3,7 +3,8 @@ use Rattle.std.proofs.Common.{◌≡◌, ℕ, ℤ, pos, negsuc, zero, suc, ◌+�
 use Rattle.std.specs.Prelude.{unsigned_abs}
 use Rattle.std.specs.Float.Ieee.{Float, binary64, add, mul, of_bits, of_int, round}
 use lib.Ieee.Back.{round_whole}
-use Rattle.float_filters.specs.Near.{IsZeroOrModerate, IsNear, IsNearInteger}
+use Rattle.float_filters.specs.Near.{IsNear, IsNearInteger}
+use Rattle.float_filters.proofs.Fractions.{IsZeroOrModerate}
 use Rattle.float_filters.proofs.Rounding.{exact_near}
 use Rattle.float_filters.proofs.FloatLaws.{float_grows, near_product, near_sum, round_near}
 

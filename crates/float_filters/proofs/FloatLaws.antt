@@ -6,8 +6,8 @@ use Rattle.std.specs.Float.Ieee.{Float, binary64, nan, inf, fin, up, round, unli
 use borrow.Author.Tests.{ne_eqb}
 use lib.Dec.{leb→le}
 use lib.Ieee.Exact.{HasValue, round_exact}
-use Rattle.float_filters.specs.Near.{IsFractionNear, IsModerate, IsZeroOrModerate, IsNearSigned, HasSign, numerator, denominator}
-use Rattle.float_filters.proofs.Fractions.{near_after, near_grows, near_times, near_plus, near_over}
+use Rattle.float_filters.specs.Near.{IsFractionNear, IsNearSigned, HasSign, numerator, denominator}
+use Rattle.float_filters.proofs.Fractions.{IsModerate, IsZeroOrModerate, near_after, near_grows, near_times, near_plus, near_over}
 use Rattle.float_filters.proofs.Rounding.{denominator_positive, IsNext, exact_near, near_of_next, rounded_next}
 
 -- ---- the range in which one rounding is near

@@ -8,10 +8,10 @@ use Rattle.fixed.proofs.RootLemmas.{root_is}
 use lib.IntN.{pos-*ℤ-pos, pos-*ℤ-negsuc, negsuc-*ℤ-pos, negsuc-*ℤ-negsuc}
 use lib.Ieee.Exact.{HasValue, round_exact}
 use Rattle.fixed.specs.Rounding.{IsFloor}
-use Rattle.float_filters.specs.Near.{denominator, numerator, HasSign, IsNearSigned, IsNearRoot, IsFractionNear, IsZeroOrModerate}
+use Rattle.float_filters.specs.Near.{denominator, numerator, HasSign, IsNearSigned, IsNearRoot, IsFractionNear}
 use Rattle.float_filters.specs.Floors.{positive_part, negative_part, IsFinite, half, halved, IsInteger, IsCertified, IsDifference}
 use Rattle.float_filters.specs.Forces.{magnitude, ratio_of, margin_of, room_of, least_of, float_component_of, IsSlack, IsLine, IsSize}
-use Rattle.float_filters.proofs.Fractions.{near_itself}
+use Rattle.float_filters.proofs.Fractions.{IsModerate, IsZeroOrModerate, near_itself}
 use Rattle.float_filters.proofs.FloatLaws.{round_near, near_product, near_quotient}
 use Rattle.float_filters.proofs.Differences.{IsSigned, IsRounded, subtracts, same_rounded, from_value}
 use Rattle.float_filters.proofs.Comparisons.{own, denominator_pos, less_value}
@@ -122,7 +122,7 @@ ratio_is s L G sg g r L0 Lm below above G0 Gm length slope =
     half_of : (rn rd : ℕ) → rd < 2 * rn → rd ≤ 2 * rn
     half_of rn rd h = omega arith
 
-    moderate : (G dn dd : ℕ) → 0 < G → G ≤ 2 ^ 52 → dd ≤ 8 * dn → dn ≤ 2 ^ 60 * dd → Rattle.float_filters.specs.Near.IsModerate 200 (G * dd) (1 * dn)
+    moderate : (G dn dd : ℕ) → 0 < G → G ≤ 2 ^ 52 → dd ≤ 8 * dn → dn ≤ 2 ^ 60 * dd → IsModerate 200 (G * dd) (1 * dn)
     moderate G dn dd p m h k =
         let a : 1 * dd ≤ G * dd = mul-le-mul_right dd p in
         let b : G * dd ≤ 2 ^ 52 * dd = mul-le-mul_right dd m in
@@ -239,7 +239,7 @@ margin_is L G s q slack Lm ratio wide =
     some (suc qn) qd L p h = omega arith
 
     moderate : (qn qd sn sd L : ℕ) → L ≤ 2 ^ 56 → qd ≤ 2 * qn * L → qn ≤ 2 ^ 56 * qd → (5 * 2 ^ 52 + 63 * L) * sd ≤ 2 ^ 55 * sn → sn ≤ 2 ^ 100 * sd
-        → Rattle.float_filters.specs.Near.IsModerate 200 (qn * sn) (qd * sd)
+        → IsModerate 200 (qn * sn) (qd * sd)
     moderate qn qd sn sd L m q p w h =
         let b : L * qn ≤ 2 ^ 56 * qn = mul-le-mul_right qn m in
         let c : qd ≤ 2 ^ 57 * qn = omega arith in

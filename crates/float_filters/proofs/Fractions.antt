@@ -1,8 +1,19 @@
 -- Laws of fractions that are near other fractions.
-use Rattle.std.proofs.Common.{◌≡◌, ℕ, ◌+◌, ◌-◌, ◌*◌, ◌^◌, ◌<◌, ◌≤◌, ap, subst, arith}
+use Rattle.std.proofs.Common.{◌≡◌, ℕ, ◌+◌, ◌-◌, ◌*◌, ◌^◌, ◌<◌, ◌≤◌, ◌⊎◌, ap, subst, arith}
 use Rattle.std.proofs.lemmas.Nat.{mul-le, pow-add, mul-pow}
 use Rattle.std.proofs.Math.Nat.{mul-le-mul_right, le_of_mul-le-mul_right, one-le-pow, pow-le-pow_left}
 use Rattle.float_filters.specs.Near.{IsFractionNear}
+
+-- ---- sizes
+
+-- a / c is between 2^-b and 2^b
+pub record IsModerate (b a c : ℕ) : Type 0 where
+  pub low : c ≤ a * 2 ^ b
+  pub high : a ≤ c * 2 ^ b
+
+-- a / c is 0, or between 2^-b and 2^b
+abbrev pub IsZeroOrModerate : ℕ → ℕ → ℕ → Type 0
+IsZeroOrModerate b a c = (a ≡ 0) ⊎ IsModerate b a c
 
 -- ---- chains of inequalities between products
 

@@ -5,7 +5,8 @@ use Rattle.std.proofs.lemmas.Simd.{get_or-zip2, get_or-replicate}
 use Rattle.std.proofs.Math.Nat.{mul-pos}
 use Rattle.std.specs.Float.Ieee.{Float, binary64, nan, mul, div, of_bits, sqrt}
 use Rattle.std.specs.Simd.Lanes.{zip2}
-use Rattle.float_filters.specs.Near.{IsZeroOrModerate, IsNear, IsNearRoot}
+use Rattle.float_filters.specs.Near.{IsNear, IsNearRoot}
+use Rattle.float_filters.proofs.Fractions.{IsZeroOrModerate}
 use Rattle.float_filters.proofs.FloatLaws.{near_quotient}
 use Rattle.float_filters.proofs.RootLaws.{near_root, near_root_product}
 use Rattle.float_filters.proofs.ConversionLaws.{natural_moderate}

@@ -5,7 +5,8 @@ use Rattle.std.proofs.Math.Nat.{mul-le-mul_right, mul-pos, lt_of_mul-lt-mul_righ
 use Rattle.std.proofs.lemmas.Bool.{cases_Bool}
 use Rattle.std.specs.Float.Ieee.{Float, binary64, nan, inf, fin, lt, mul, of_bits}
 use borrow.Author.Tests.{ltb-true, lt-ltb, le-ltb}
-use Rattle.float_filters.specs.Near.{IsFractionNear, IsNear, IsZeroOrModerate, HasSign, numerator, denominator}
+use Rattle.float_filters.specs.Near.{IsFractionNear, IsNear, HasSign, numerator, denominator}
+use Rattle.float_filters.proofs.Fractions.{IsZeroOrModerate}
 use Rattle.float_filters.specs.Limits.{IsAround}
 use Rattle.float_filters.specs.declared.limits.FloatLimit.{FloatLimit}
 use Rattle.float_filters.proofs.Rounding.{denominator_positive}

@@ -4,14 +4,14 @@ use lib.Ieee.{Float, binary64, add, le, lt, mul, sub, fits, of_bits}
 use lib.Ieee.Fits.{sub-fits}
 use Rattle.fixed.specs.Roots.{root}
 use Rattle.fixed.proofs.RootLemmas.{root_is}
-use Rattle.float_filters.specs.Near.{denominator, numerator, HasSign, IsFractionNear, IsNear, IsNearRoot, IsZeroOrModerate}
+use Rattle.float_filters.specs.Near.{denominator, numerator, IsFractionNear, IsNear, IsNearRoot}
 use Rattle.float_filters.specs.Floors.{positive_part, negative_part, IsFinite, half, halved, IsDifference, IsInteger, IsCertified}
 use Rattle.float_filters.specs.Forces.{IsSlack}
 use Rattle.float_filters.specs.DistanceFloors.{IsFloorOfRoot}
 use Rattle.std.proofs.lemmas.Int.{ints}
 use Rattle.float_filters.proofs.FloorLaws.{half_is}
 use Rattle.float_filters.proofs.Differences.{adds, same_rounded, whole_exact}
-use Rattle.float_filters.proofs.Fractions.{near_itself, near_grows}
+use Rattle.float_filters.proofs.Fractions.{IsModerate, near_itself, near_grows}
 use Rattle.float_filters.proofs.FloatLaws.{near_product, near_sum}
 use Rattle.float_filters.proofs.RootLaws.{square_le}
 use Rattle.float_filters.proofs.DistanceLaws.{floor_decided, margin_of_root}
@@ -90,12 +90,12 @@ slack_is limit s f le some most near =
     smaller : (L s limit : ℕ) → L * L ≤ s → s ≤ limit → L * L ≤ limit
     smaller L s limit h g = omega arith
 
-    moderate : (fn fd L : ℕ) → 0 < L → L * (2 ^ 53 - 5) * fd ≤ fn * 2 ^ 53 → fn ≤ 2 ^ 66 * fd → Rattle.float_filters.specs.Near.IsModerate 200 (fn * 1) (fd * 2 ^ 49)
+    moderate : (fn fd L : ℕ) → 0 < L → L * (2 ^ 53 - 5) * fd ≤ fn * 2 ^ 53 → fn ≤ 2 ^ 66 * fd → IsModerate 200 (fn * 1) (fd * 2 ^ 49)
     moderate fn fd L p h g =
         let one : 1 * ((2 ^ 53 - 5) * fd) ≤ L * ((2 ^ 53 - 5) * fd) = mul-le-mul_right ((2 ^ 53 - 5) * fd) p in
         record { low = omega arith; high = omega arith }
 
-    sum_moderate : (pn pd fn fd : ℕ) → 0 < fd → fn ≤ 2 ^ 66 * fd → pn * (fd * 2 ^ 49) * 2 ^ 53 ≤ fn * 1 * (2 ^ 53 + 1) * pd → Rattle.float_filters.specs.Near.IsModerate 200 (3 * pd + pn * 4) (4 * pd)
+    sum_moderate : (pn pd fn fd : ℕ) → 0 < fd → fn ≤ 2 ^ 66 * fd → pn * (fd * 2 ^ 49) * 2 ^ 53 ≤ fn * 1 * (2 ^ 53 + 1) * pd → IsModerate 200 (3 * pd + pn * 4) (4 * pd)
     sum_moderate pn pd fn fd FD f p =
         let a = mul-le-mul_right ((2 ^ 53 + 1) * pd) f in
         let b : pn * fd ≤ 2 ^ 20 * pd * fd = omega arith in

@@ -6,8 +6,8 @@ use Rattle.std.proofs.Math.Nat.{mul-le-mul_right, le_of_mul-le-mul_right, mul-po
 use Rattle.std.specs.Float.Ieee.{Float, binary64, nan, inf, fin, up, round, mul, sqrt, size, root_below, root_twice}
 use lib.Ieee.Fits.{up_pos}
 use lib.Ieee.Root.{Root, whole_part}
-use Rattle.float_filters.specs.Near.{IsFractionNear, IsModerate, IsZeroOrModerate, IsNear, IsNearRoot, HasSign, numerator, denominator}
-use Rattle.float_filters.proofs.Fractions.{near_after, near_times}
+use Rattle.float_filters.specs.Near.{IsFractionNear, IsNear, IsNearRoot, HasSign, numerator, denominator}
+use Rattle.float_filters.proofs.Fractions.{IsModerate, IsZeroOrModerate, near_after, near_times}
 use Rattle.float_filters.proofs.Rounding.{IsNext, denominator_positive}
 use Rattle.float_filters.proofs.FloatLaws.{moderate_of_near, moderate_grows, product_is, round_near, round_next, some_of_near}
 

@@ -1,6 +1,6 @@
 -- Floats near exact numbers, in factors of 1 - 2^-53 and 1 + 2^-53. Rounding once to the nearest float adds one factor
 -- (N. J. Higham, Accuracy and Stability of Numerical Algorithms, 2002, chapter 2).
-use Rattle.std.specs.Prelude.{ℕ, ℤ, pos, negsuc, suc, Bool, true, false, ◌≡◌, ◌+◌, ◌-◌, ◌*◌, ◌^◌, ◌≤◌, ◌⊎◌}
+use Rattle.std.specs.Prelude.{ℕ, ℤ, pos, negsuc, suc, Bool, true, false, ◌≡◌, ◌+◌, ◌-◌, ◌*◌, ◌^◌, ◌≤◌}
 use Rattle.std.specs.Float.Ieee.{Float, nan, inf, fin, up, down}
 
 -- ---- fractions
@@ -9,15 +9,6 @@ use Rattle.std.specs.Float.Ieee.{Float, nan, inf, fin, up, down}
 pub record IsFractionNear (k n d a c : ℕ) : Type 0 where
   pub low : a * (2 ^ 53 - 1) ^ k * d ≤ n * c * (2 ^ 53) ^ k
   pub high : n * c * (2 ^ 53) ^ k ≤ a * (2 ^ 53 + 1) ^ k * d
-
--- a / c is between 2^-b and 2^b
-pub record IsModerate (b a c : ℕ) : Type 0 where
-  pub low : c ≤ a * 2 ^ b
-  pub high : a ≤ c * 2 ^ b
-
--- a / c is 0, or between 2^-b and 2^b
-abbrev pub IsZeroOrModerate : ℕ → ℕ → ℕ → Type 0
-IsZeroOrModerate b a c = (a ≡ 0) ⊎ IsModerate b a c
 
 -- ---- floats
 
