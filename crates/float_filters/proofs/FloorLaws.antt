@@ -1,11 +1,11 @@
 -- Certified floors: the steps of `floors` in one lane.
-use Rattle.std.proofs.Common.{◌≡◌, ℕ, suc, ◌+◌, ◌-◌, ◌*◌, ◌/◌, ◌^◌, ◌<◌, ◌≤◌, true, false, T, refl, ap, ◌∙◌, arith, pos, negsuc, pow_pos, pow_mono, shl_lt, lt_of_not-le, lt_of_lt_of_le, lt_irrefl, div-one, mul-div_cancel, mul-le-mul_right, le_trans}
-use lib.Ieee.{Float, nan, inf, fin, binary64, size, add, sub, lt, le, fits, to_bits, of_bits}
+use Rattle.std.proofs.Common.{◌≡◌, ℕ, suc, ◌+◌, ◌-◌, ◌*◌, ◌/◌, ◌^◌, ◌<◌, ◌≤◌, Bool, true, false, cond, T, refl, ap, ◌∙◌, arith, pos, negsuc, pow_pos, pow_mono, shl_lt, lt_of_not-le, lt_of_lt_of_le, lt_irrefl, div-one, mul-div_cancel, mul-le-mul_right, le_trans}
+use lib.Ieee.{Float, nan, inf, fin, binary64, size, round, units, odd, neg, sum, add, sub, lt, le, fits, to_bits, of_bits}
 use lib.Ieee.Fits.{add-fits, sub-fits}
 use lib.Ieee.Digits.{size-lt, size-le}
 use Rattle.float_filters.specs.Near.{denominator}
-use Rattle.float_filters.specs.Floors.{positive_part, negative_part, IsFinite, IsDifference, half, middle, halved, IsInteger, IsCertified}
-use Rattle.float_filters.proofs.Differences.{IsRounded, adds, subtracts, same_rounded, whole_exact}
+use Rattle.float_filters.specs.Floors.{positive_part, negative_part, IsFinite, IsDifference, IsZero, half, minus_half, middle, halved, IsInteger, IsCertified}
+use Rattle.float_filters.proofs.Differences.{IsSigned, IsRounded, adds, subtracts, same_rounded, whole_exact}
 use Rattle.float_filters.proofs.RestLaws.{integer_near, rest_exact}
 use Rattle.float_filters.proofs.Comparisons.{own, denominator_pos, less_value, at_least_value, finite_rounded, rounded_at_most, rounded_at_least, rounded_above_minus, large_whole}
 
@@ -106,10 +106,46 @@ certified p room least f hi lo fr less least_at_most =
       at_least = at_least_value _ _ _ (sub binary64 u w) least exact least_at_most;
     }
 
+-- ---- 0
+
+half_round : (s : Bool) → round binary64 s 1 2 ≡ fin s 1 (negsuc 0)
+unfolding round units odd
+half_round false = refl
+half_round true = refl
+
+-- 1/2 or -1/2 is kept by rounding
+pub half_exact : (s : Bool) (y : Float) (a b c : ℕ) → 0 < c → a * 2 + cond s 1 0 * c ≡ cond s 0 1 * c + b * 2 → IsRounded y a b c → y ≡ fin s 1 (negsuc 0)
+half_exact s y a b c C e r = by s q.0 q.1 q.2 q.3
+  where
+    q : IsRounded y (cond s 0 1) (cond s 1 0) 2
+    q = same_rounded y a b c (cond s 0 1) (cond s 1 0) 2 C (omega arith) e r
+
+    by : (s t : Bool) (n : ℕ) → y ≡ round binary64 t n 2 → IsSigned t n (cond s 0 1) (cond s 1 0) → y ≡ fin s 1 (negsuc 0)
+    by false false n is rel = let one : n ≡ 1 = omega arith in is ∙ ap (λ (k : ℕ). round binary64 false k 2) one ∙ half_round false
+    by true true n is rel = let one : n ≡ 1 = omega arith in is ∙ ap (λ (k : ℕ). round binary64 true k 2) one ∙ half_round true
+    by false true n is rel = absurd (omega arith)
+    by true false n is rel = absurd (omega arith)
+
+pub zero_parts : (p : Float) → IsZero p → (positive_part p ≡ 0) × (negative_part p ≡ 0)
+zero_parts nan z = absurd z.finite
+zero_parts (inf s) z = absurd z.finite
+zero_parts (fin false m e) z = (z.none, refl)
+zero_parts (fin true m e) z = (refl, z.none)
+
+pub halved_zero : (p : Float) → IsZero p → halved p ≡ minus_half
+halved_zero p z =
+    let d = denominator_pos p in
+    let e = zero_parts p z in
+    half_exact true (halved p) _ _ (denominator p * 2) (omega arith) (omega (arith, e.0, e.1)) (halved_rounded p z.finite)
+
+pub rest_of_half : sub binary64 minus_half (sub binary64 (add binary64 minus_half middle) middle) ≡ minus_half
+unfolding sub add sum neg round units odd
+rest_of_half = refl
+
 -- ---- the bits of an integer between 2^52 and 2^53
 
-units : (n : ℕ) → 2 ^ 52 ≤ n → n < 2 ^ 53 → size (n * 2 ^ 1074) ≡ 1127
-units n l h =
+digits : (n : ℕ) → 2 ^ 52 ≤ n → n < 2 ^ 53 → size (n * 2 ^ 1074) ≡ 1127
+digits n l h =
     let top : n * 2 ^ 1074 < 2 ^ 1127 = shl_lt 53 1074 h in
     let most : size (n * 2 ^ 1074) ≤ 1127 = size-le (n * 2 ^ 1074) 1127 top in
     let bottom : 2 ^ 1126 ≤ n * 2 ^ 1074 = mul-le-mul_right (2 ^ 1074) l in
@@ -121,7 +157,7 @@ one_unit k e = let h : 2 ^ 1 ≤ 2 ^ suc k = pow_mono {i = 1} {j = suc k} (omega
 
 bits_by : (n N : ℕ) → N ≡ n * 2 ^ 1074 → 2 ^ 52 ≤ n → n < 2 ^ 53 → 0 + (size N - 53) * 2 ^ 52 + N / 2 ^ (size N - 53) ≡ 1074 * 2 ^ 52 + n
 bits_by n N e l h =
-    let z : size N ≡ 1127 = ap size e ∙ units n l h in
+    let z : size N ≡ 1127 = ap size e ∙ digits n l h in
     ap (λ (k : ℕ). 0 + (k - 53) * 2 ^ 52 + N / 2 ^ (k - 53)) z ∙ ap (λ (k : ℕ). 1074 * 2 ^ 52 + k) (ap (λ (k : ℕ). k / 2 ^ 1074) e ∙ mul-div_cancel n (pow_pos 1074))
 
 -- the bits of an integer between 2^52 and 2^53 count up with it

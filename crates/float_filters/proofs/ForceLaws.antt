@@ -1,21 +1,20 @@
 -- A component of a force whose certified floor is sure is the exact component, rounded down.
 use Rattle.std.proofs.Common.{◌≡◌, ℕ, zero, suc, ◌+◌, ◌-◌, ◌*◌, ◌^◌, ◌<◌, ◌≤◌, Bool, true, false, cond, T, ℤ, pos, negsuc, ◌-ℤ◌, ◌*ℤ◌, neg_ℤ, refl, sym, ap, ◌∙◌, subst, arith, inl, inr, mul-le-mul_right, mul-le-mul, le_of_mul-le-mul_right, lt_of_mul-lt-mul_right, mul-pos, lt-ltb, le-ltb, true≢false, lt_of_not-le, le_of_lt, le_of_suc-le-suc}
 use Rattle.std.proofs.lemmas.Int.{ints}
-use lib.Ieee.{Float, nan, inf, fin, binary64, round, neg, lt, mul, sub, fits, unlike, up, down}
+use lib.Ieee.{Float, nan, inf, fin, binary64, round, neg, lt, le, eq, mul, sub, fits, unlike, up, down}
 use lib.Ieee.Fits.{mul-fits, sub-fits}
-use Rattle.fixed.specs.Roots.{IsSquareRoot, root}
+use Rattle.fixed.specs.Roots.{root}
 use Rattle.fixed.proofs.RootLemmas.{root_is}
 use lib.IntN.{pos-*ℤ-pos, pos-*ℤ-negsuc, negsuc-*ℤ-pos, negsuc-*ℤ-negsuc}
-use lib.Ieee.Exact.{HasValue, round_exact}
 use Rattle.fixed.specs.Rounding.{IsFloor}
-use Rattle.float_filters.specs.Near.{denominator, numerator, HasSign, IsNearSigned, IsNearRoot, IsFractionNear}
-use Rattle.float_filters.specs.Floors.{positive_part, negative_part, IsFinite, half, halved, IsInteger, IsCertified, IsDifference}
+use Rattle.float_filters.specs.Near.{denominator, numerator, HasSign, IsNearInteger, IsNearSigned, IsNearRoot, IsFractionNear}
+use Rattle.float_filters.specs.Floors.{positive_part, negative_part, IsFinite, IsZero, half, minus_half, halved, IsInteger, IsCertified, IsDifference}
 use Rattle.float_filters.specs.Forces.{magnitude, ratio_of, margin_of, room_of, least_of, float_component_of, IsSlack, IsLine, IsSize}
 use Rattle.float_filters.proofs.Fractions.{IsModerate, IsZeroOrModerate, near_itself}
 use Rattle.float_filters.proofs.FloatLaws.{round_near, near_product, near_quotient}
-use Rattle.float_filters.proofs.Differences.{IsSigned, IsRounded, subtracts, same_rounded, from_value}
+use Rattle.float_filters.proofs.Differences.{IsSigned, IsRounded, subtracts, same_rounded}
 use Rattle.float_filters.proofs.Comparisons.{own, denominator_pos, less_value}
-use Rattle.float_filters.proofs.FloorLaws.{half_value, halved_rounded}
+use Rattle.float_filters.proofs.FloorLaws.{half_exact, half_value, halved_rounded, halved_zero, zero_parts}
 use Rattle.float_filters.proofs.ErrorLaws.{not_negative, not_positive, signed_finite, less_finite, at_least_finite, rounding_error, half_apart, above_floor, below_floor}
 use Rattle.float_filters.proofs.ForceBounds.{root_high, root_low, below_root, slope_high, slope_low, part_low, part_high, close_high, close_low, margin_above, margin_below, margin_size, ratio_some, wide, floor_above, floor_below}
 
@@ -524,31 +523,28 @@ magnitude_zero (fin false m e) h =
     let k : lt q (fin false 0 (pos 0)) ≡ false = le-ltb (m * up e * 1) (0 * 1 * down e) (omega arith) in
     ap (λ (b : Bool). cond b (neg q) q) k
 
-half_below : (y : Float) (a b c : ℕ) → 0 < c → a * 2 + 1 * c ≡ 0 * c + b * 2 → IsRounded y a b c → IsDifference y 0 1 2
-half_below y a b c C e r = by q.0 q.1 q.2 q.3
-  where
-    q : IsRounded y 0 1 2
-    q = same_rounded y a b c 0 1 2 C (omega arith) e r
+-- the component and the margin are 0
+zero_force : (s L : ℕ) (sx : Bool) (size r x slack : Float) → 0 < L → L ≤ 2 ^ 56 → L * L ≤ s → s < (L + 1) * (L + 1) → IsNearRoot 7 r s 1 → IsNearSigned 0 false size 0 1 → HasSign sx x → HasSign false slack
+    → IsZero (float_component_of size r x) × IsZero (margin_of size r slack)
+zero_force s L sx size r x slack L0 Lm below above length slope hx hs =
+    let q = ratio_of size r in
+    let d = divisor_is s L r L0 Lm below above length in
+    let ratio = zero_ratio size r slope d.0 d.1 in
+    let c = zero_product sx q x ratio.0 ratio.1 hx in
+    let e = magnitude_zero q ratio.0 in
+    let m = zero_product false (magnitude q) slack (subst (HasSign false) (sym e) ratio.0) (ap numerator e ∙ ratio.1) hs in (
+      record { finite = signed_finite _ (float_component_of size r x) c.0; none = c.1 },
+      record { finite = signed_finite _ (margin_of size r slack) m.0; none = m.1 },
+    )
 
-    by : (s : Bool) (n : ℕ) → y ≡ round binary64 s n 2 → IsSigned s n 0 1 → IsDifference y 0 1 2
-    by false n is rel = absurd (omega arith)
-    by true n is rel =
-        let one : n ≡ 1 = omega arith in
-        let v : HasValue (round binary64 true 1 2) true 1 2 = round_exact binary64 true 1 2 1 1073 (omega arith) (omega arith) (omega arith) (omega arith) in
-        subst (λ (z : Float). IsDifference z 0 1 2) (sym (is ∙ ap (λ (k : ℕ). round binary64 true k 2) one)) (from_value _ true 1 2 0 1 v (omega arith))
+zero_room : (m : Float) → IsZero m → sub binary64 half m ≡ half
+zero_room m z =
+    let d = denominator_pos m in
+    let e = zero_parts m z in
+    half_exact false (sub binary64 half m) _ _ (denominator m * 2) (omega arith) (omega (arith, e.0, e.1)) (room_rounded m z.finite)
 
-half_above : (y : Float) (a b c : ℕ) → 0 < c → a * 2 + 0 * c ≡ 1 * c + b * 2 → IsRounded y a b c → IsDifference y 1 0 2
-half_above y a b c C e r = by q.0 q.1 q.2 q.3
-  where
-    q : IsRounded y 1 0 2
-    q = same_rounded y a b c 1 0 2 C (omega arith) e r
-
-    by : (s : Bool) (n : ℕ) → y ≡ round binary64 s n 2 → IsSigned s n 1 0 → IsDifference y 1 0 2
-    by true n is rel = absurd (omega arith)
-    by false n is rel =
-        let one : n ≡ 1 = omega arith in
-        let v : HasValue (round binary64 false 1 2) false 1 2 = round_exact binary64 false 1 2 1 1073 (omega arith) (omega arith) (omega arith) (omega arith) in
-        subst (λ (z : Float). IsDifference z 1 0 2) (sym (is ∙ ap (λ (k : ℕ). round binary64 false k 2) one)) (from_value _ false 1 2 1 0 v (omega arith))
+minus_half_value : IsDifference minus_half 0 1 2
+minus_half_value = record { finite = tt; value = refl }
 
 -- the only integer certified from -1/2 to 1/2, the latter left out, is 0
 zero_between : (up un ud lp ln ld rp rn rd n m : ℕ) → 0 < ud → 0 < ld → 0 < rd → up * 2 + 1 * ud ≡ 0 * ud + un * 2 → lp * 2 + 1 * ld ≡ 0 * ld + ln * 2 → rp * 2 + 0 * rd ≡ 1 * rd + rn * 2
@@ -564,39 +560,59 @@ zero_between up un ud lp ln ld rp rn rd n m UD LD RD u l r least less =
     let above : m < n + 1 = lt_of_mul-lt-mul_right (ud * rd) f in
     omega arith
 
-zero_certified : (s : Bool) (c m t : Float) → HasSign s c → numerator c ≡ 0 → HasSign false m → numerator m ≡ 0 → IsCertified c (sub binary64 half m) (halved m) t → positive_part t ≡ 3 * 2 ^ 51
-zero_certified s c m t hc zc hm zm cert =
-    let C = denominator_pos c in
-    let M = denominator_pos m in
-    let pc = parts_zero s c hc zc in
-    let pm = parts_zero false m hm zm in
-    let fc = signed_finite s c hc in
-    let fm = signed_finite false m hm in
-    let u = half_below (halved c) _ _ (denominator c * 2) (omega arith) (omega (arith, pc)) (halved_rounded c fc) in
-    let l = half_below (halved m) _ _ (denominator m * 2) (omega arith) (omega (arith, pm)) (halved_rounded m fm) in
-    let r = half_above (sub binary64 half m) _ _ (denominator m * 2) (omega arith) (omega (arith, pm)) (room_rounded m fm) in
+zero_certified : (c m t : Float) → IsZero c → IsZero m → IsCertified c (sub binary64 half m) (halved m) t → positive_part t ≡ 3 * 2 ^ 51
+zero_certified c m t zc zm cert =
+    let u = subst (λ (y : Float). IsDifference y 0 1 2) (sym (halved_zero c zc)) minus_half_value in
+    let l = subst (λ (y : Float). IsDifference y 0 1 2) (sym (halved_zero m zm)) minus_half_value in
+    let r = subst (λ (y : Float). IsDifference y 1 0 2) (sym (zero_room m zm)) half_value in
     zero_between _ _ _ _ _ _ _ _ _ (positive_part t) (3 * 2 ^ 51) (denominator_pos (halved c)) (denominator_pos (halved m)) (denominator_pos (sub binary64 half m)) u.value l.value r.value
     (at_least_finite _ _ _ (halved m) l.finite cert.at_least) (less_finite _ _ _ (sub binary64 half m) r.finite cert.less)
-  where
-    parts_zero : (s : Bool) (y : Float) → HasSign s y → numerator y ≡ 0 → (positive_part y ≡ 0) × (negative_part y ≡ 0)
-    parts_zero false y h z = let e = not_negative y h in (e.0 ∙ z, e.1)
-    parts_zero true y h z = let e = not_positive y h in (e.0, e.1 ∙ z)
 
 force_none : (s L A : ℕ) (sx : Bool) (size r x slack t : Float) → 0 < L → L ≤ 2 ^ 56 → L * L ≤ s → s < (L + 1) * (L + 1)
     → IsNearRoot 7 r s 1 → IsNearSigned 0 false size 0 1 → HasSign sx x → HasSign false slack
     → (IsFinite (float_component_of size r x) → positive_part (float_component_of size r x) ≤ 2 ^ 50 * denominator (float_component_of size r x) → negative_part (float_component_of size r x) ≤ 2 ^ 50 * denominator (float_component_of size r x)
     → IsCertified (float_component_of size r x) (room_of size r slack) (least_of size r slack) t) → IsInteger t (positive_part t) × IsDecidedAbove (positive_part t) 0 A L
 force_none s L A sx size r x slack t L0 Lm below above length slope hx hs cert =
-    let q = ratio_of size r in
-    let d = divisor_is s L r L0 Lm below above length in
-    let ratio = zero_ratio size r slope d.0 d.1 in
-    let c = zero_product sx q x ratio.0 ratio.1 hx in
-    let e = magnitude_zero q ratio.0 in
-    let m = zero_product false (magnitude q) slack (subst (HasSign false) (sym e) ratio.0) (ap numerator e ∙ ratio.1) hs in
-    let z = c.1 in
-    let sure = certify _ (float_component_of size r x) (room_of size r slack) (least_of size r slack) t c.0 (omega arith) cert in
-    let middle = zero_certified _ (float_component_of size r x) (margin_of size r slack) t c.0 c.1 m.0 m.1 sure in
-    (sure.integer, record { floor = (0, middle, omega arith, omega arith) })
+    let z = zero_force s L sx size r x slack L0 Lm below above length slope hx hs in
+    let e = zero_parts (float_component_of size r x) z.0 in
+    let sure = cert z.0.finite (omega (arith, e.0)) (omega (arith, e.1)) in
+    let at_middle = zero_certified (float_component_of size r x) (margin_of size r slack) t z.0 z.1 sure in
+    (sure.integer, record { floor = (0, at_middle, omega arith, omega arith) })
+
+-- ---- the root of a line's square
+
+above_root : (s : ℕ) → s < (root s + 1) * (root s + 1)
+above_root s = lt_of_not-le (λ (k : (root s + 1) * (root s + 1) ≤ s). let h = (root_is s).greatest (root s + 1) k in absurd (omega arith))
+
+some_root : (s : ℕ) → 0 < s → 0 < root s
+some_root s p = let h = (root_is s).greatest 1 (omega arith) in omega arith
+
+few_root : (s : ℕ) → s < 2 ^ 112 → root s ≤ 2 ^ 56
+few_root s p = le_of_suc-le-suc (lt_of_not-le (λ (k : suc (2 ^ 56) ≤ root s). let h = mul-le-mul k k in let e = (root_is s).square_le in absurd (omega arith)))
+
+-- ---- a lane without a force is sure
+
+signed_part : (x : Float) (a : ℤ) → IsNearInteger 1 x a → (s : Bool) × HasSign s x
+signed_part x (pos n) h = (false, h.sign)
+signed_part x (negsuc n) h = (true, h.sign)
+
+half_within : T (lt minus_half half)
+unfolding lt
+half_within = tt
+
+half_at_most : T (le minus_half minus_half)
+unfolding le lt eq
+half_at_most = tt
+
+pub zero_sure : (s : ℕ) (a : ℤ) (size r x slack : Float) → IsSize (pos 0) size → IsLine s a r x slack
+    → IsZero (float_component_of size r x) × T (lt minus_half (room_of size r slack)) × T (le (least_of size r slack) minus_half)
+zero_sure s a size r x slack exact line =
+    let part = signed_part x a line.part_near in
+    let z = zero_force s (root s) part.0 size r x slack (some_root s line.some) (few_root s line.short) (root_is s).square_le (above_root s) line.length_near exact.exact part.1 line.enough.sign in (
+      z.0,
+      subst (λ (y : Float). T (lt minus_half y)) (sym (zero_room (margin_of size r slack) z.1)) half_within,
+      subst (λ (y : Float). T (le y minus_half)) (sym (halved_zero (margin_of size r slack) z.1)) half_at_most,
+    )
 
 -- ---- any force
 
@@ -606,34 +622,22 @@ pub force_lane : (s : ℕ) (g a : ℤ) (size r x slack t : Float) → IsSize g s
     → IsInteger t (positive_part t) × IsFloor (g *ℤ a) (pos (root s)) (pos (positive_part t) -ℤ pos (3 * 2 ^ 51))
 force_lane s g a size r x slack t exact line order cert = by g a exact line
   where
-    is : IsSquareRoot s (root s)
-    is = root_is s
-
-    above : s < (root s + 1) * (root s + 1)
-    above = lt_of_not-le (λ (k : (root s + 1) * (root s + 1) ≤ s). let h = is.greatest (root s + 1) k in absurd (omega arith))
-
-    some : 0 < s → 0 < root s
-    some p = let h = is.greatest 1 (omega arith) in omega arith
-
-    few : s < 2 ^ 112 → root s ≤ 2 ^ 56
-    few p = le_of_suc-le-suc (lt_of_not-le (λ (k : suc (2 ^ 56) ≤ root s). let h = mul-le-mul k k in let e = is.square_le in absurd (omega arith)))
-
     by : (g a : ℤ) → IsSize g size → IsLine s a r x slack → IsInteger t (positive_part t) × IsFloor (g *ℤ a) (pos (root s)) (pos (positive_part t) -ℤ pos (3 * 2 ^ 51))
     by (pos zero) (pos n) z l =
-        let d = force_none s (root s) n false size r x slack t (some l.some) (few l.short) is.square_le above l.length_near z.exact l.part_near.sign l.enough.sign cert in
+        let d = force_none s (root s) n false size r x slack t (some_root s l.some) (few_root s l.short) (root_is s).square_le (above_root s) l.length_near z.exact l.part_near.sign l.enough.sign cert in
         (d.0, subst (λ (z : ℤ). IsFloor z (pos (root s)) (pos (positive_part t) -ℤ pos (3 * 2 ^ 51))) (sym (pos-*ℤ-pos zero n)) (floor_of_above (positive_part t) zero n (root s) d.1))
     by (pos zero) (negsuc n) z l =
-        let d = force_none s (root s) (suc n) true size r x slack t (some l.some) (few l.short) is.square_le above l.length_near z.exact l.part_near.sign l.enough.sign cert in
+        let d = force_none s (root s) (suc n) true size r x slack t (some_root s l.some) (few_root s l.short) (root_is s).square_le (above_root s) l.length_near z.exact l.part_near.sign l.enough.sign cert in
         (d.0, subst (λ (z : ℤ). IsFloor z (pos (root s)) (pos (positive_part t) -ℤ pos (3 * 2 ^ 51))) (zero_turned (suc n) ∙ sym (pos-*ℤ-negsuc zero n)) (floor_of_above (positive_part t) zero (suc n) (root s) d.1))
     by (pos (suc m)) (pos n) z l =
-        let d = force_some s (root s) n (suc m) false false size r x slack t (some l.some) (few l.short) is.square_le above l.side (omega arith) z.small l.length_near z.exact l.part_near l.enough order cert in
+        let d = force_some s (root s) n (suc m) false false size r x slack t (some_root s l.some) (few_root s l.short) (root_is s).square_le (above_root s) l.side (omega arith) z.small l.length_near z.exact l.part_near l.enough order cert in
         (d.0, subst (λ (z : ℤ). IsFloor z (pos (root s)) (pos (positive_part t) -ℤ pos (3 * 2 ^ 51))) (sym (pos-*ℤ-pos (suc m) n)) (floor_of_above (positive_part t) (suc m) n (root s) d.1))
     by (pos (suc m)) (negsuc n) z l =
-        let d = force_some s (root s) (suc n) (suc m) false true size r x slack t (some l.some) (few l.short) is.square_le above l.side (omega arith) z.small l.length_near z.exact l.part_near l.enough order cert in
+        let d = force_some s (root s) (suc n) (suc m) false true size r x slack t (some_root s l.some) (few_root s l.short) (root_is s).square_le (above_root s) l.side (omega arith) z.small l.length_near z.exact l.part_near l.enough order cert in
         (d.0, subst (λ (z : ℤ). IsFloor z (pos (root s)) (pos (positive_part t) -ℤ pos (3 * 2 ^ 51))) (sym (pos-*ℤ-negsuc (suc m) n)) (floor_of_below (positive_part t) (suc m) (suc n) (root s) d.1))
     by (negsuc m) (pos n) z l =
-        let d = force_some s (root s) n (suc m) true false size r x slack t (some l.some) (few l.short) is.square_le above l.side (omega arith) z.small l.length_near z.exact l.part_near l.enough order cert in
+        let d = force_some s (root s) n (suc m) true false size r x slack t (some_root s l.some) (few_root s l.short) (root_is s).square_le (above_root s) l.side (omega arith) z.small l.length_near z.exact l.part_near l.enough order cert in
         (d.0, subst (λ (z : ℤ). IsFloor z (pos (root s)) (pos (positive_part t) -ℤ pos (3 * 2 ^ 51))) (sym (negsuc-*ℤ-pos m n)) (floor_of_below (positive_part t) (suc m) n (root s) d.1))
     by (negsuc m) (negsuc n) z l =
-        let d = force_some s (root s) (suc n) (suc m) true true size r x slack t (some l.some) (few l.short) is.square_le above l.side (omega arith) z.small l.length_near z.exact l.part_near l.enough order cert in
+        let d = force_some s (root s) (suc n) (suc m) true true size r x slack t (some_root s l.some) (few_root s l.short) (root_is s).square_le (above_root s) l.side (omega arith) z.small l.length_near z.exact l.part_near l.enough order cert in
         (d.0, subst (λ (z : ℤ). IsFloor z (pos (root s)) (pos (positive_part t) -ℤ pos (3 * 2 ^ 51))) (sym (negsuc-*ℤ-negsuc m n)) (floor_of_above (positive_part t) (suc m) (suc n) (root s) d.1))

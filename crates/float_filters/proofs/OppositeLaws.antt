@@ -1,5 +1,5 @@
 -- Minus an integer as a float, put together from its bits.
-use Rattle.std.proofs.Common.{◌≡◌, ℕ, zero, suc, ◌+◌, ◌-◌, ◌*◌, ◌/◌, ◌%◌, ◌^◌, ◌<◌, ◌≤◌, Bool, true, false, cond, eqb, List, [], ◌∷◌, ℤ, pos, negsuc, neg_ℤ, length, get_or, map, replicate, refl, sym, ap, ◌∙◌, subst, arith, to_z, of_z, w64, bit_and, bit_or, pow_pos, mul-pos, lt-ltb, le-ltb, eqb→eq, not, SFits, T, true≢false}
+use Rattle.std.proofs.Common.{◌≡◌, ℕ, zero, suc, ◌+◌, ◌-◌, ◌*◌, ◌/◌, ◌%◌, ◌^◌, ◌<◌, ◌≤◌, Bool, true, false, cond, eqb, List, [], ◌∷◌, ℤ, pos, negsuc, neg_ℤ, length, get_or, map, replicate, refl, sym, ap, ◌∙◌, subst, arith, to_z, of_z, w64, bit_and, bit_or, pow_pos, mul-pos, lt-ltb, le-ltb, eqb→eq, eq-eqb, not, SFits, T, true≢false}
 use Rattle.std.specs.Simd.Lanes.{zip2, Each1}
 use Rattle.std.proofs.lemmas.Bool.{lt-leb}
 use Rattle.std.proofs.lemmas.Nat.{and_mask, or_comm, or_shifted}
@@ -11,11 +11,11 @@ use lib.Ieee.Back.{round_whole}
 use lib.Ieee.Exact.{HasValue, odd_sign}
 use lib.Ieee.Fits.{down_pos}
 use lib.Ieee.Scale.{round_same}
-use Rattle.float_filters.specs.Floors.{IsSet, lane, middle}
+use Rattle.float_filters.specs.Floors.{IsFull, IsSet, lane, middle}
 use Rattle.float_filters.specs.Forces.{IsSize}
 use Rattle.float_filters.proofs.FloorLaws.{middle_is}
 use Rattle.float_filters.proofs.Rounding.{exact_near}
-use Rattle.float_filters.proofs.VectorLaws.{chosen, kept}
+use Rattle.float_filters.proofs.VectorLaws.{chosen, full_where, kept}
 
 -- ---- the bits of 2^52 and more
 
@@ -120,6 +120,21 @@ low_set xs k m l f h =
     let b : get_or (replicate 4 none) k none ≡ none = get_or-replicate 4 k none none l in
     let c : get_or xs k 0 / 2 ^ 52 * 2 ^ 52 ≡ 0 = sym (and_high_mask 64 52 (omega arith) (get_or xs k 0) f) ∙ sym a ∙ equal_set _ _ k h ∙ b in
     omega (arith, c)
+
+pub low_full : (xs : List ℕ) (k : ℕ) → length xs ≡ 4 → k < 4 → get_or xs k 0 < 2 ^ 52
+    → IsFull (map (to_z w64) (zip2 (λ a b. cond (eqb a b) (2 ^ 64 - 1) 0) (zip2 bit_and xs (18442240474082181120 ∷ 18442240474082181120 ∷ 18442240474082181120 ∷ 18442240474082181120 ∷ [])) (0 ∷ 0 ∷ 0 ∷ 0 ∷ []))) k
+low_full xs k m l h =
+    let a : get_or (zip2 bit_and xs (replicate 4 18442240474082181120)) k 0 ≡ bit_and (get_or xs k 0) (2 ^ 64 - 2 ^ 52) = natural_with bit_and xs 18442240474082181120 k m l in
+    let none : ℕ = 0 in
+    let b : get_or (replicate 4 none) k none ≡ none = get_or-replicate 4 k none none l in
+    let f : get_or xs k 0 < 2 ^ 64 = omega arith in
+    let c : get_or xs k 0 / 2 ^ 52 * 2 ^ 52 ≡ 0 = omega arith in
+    let e = a ∙ and_high_mask 64 52 (omega arith) (get_or xs k 0) f ∙ c ∙ sym b in
+    full_where eqb none (zip2 bit_and xs (replicate 4 18442240474082181120)) (replicate 4 none) k (length-zip2 bit_and xs (replicate 4 18442240474082181120) m ∙ m) refl l (subst T (sym (eq-eqb _ _ e)) tt)
+
+-- 2^51 less 0
+pub zero_low : (z : ℤ) (b t : ℕ) → z ≡ pos 0 → b ≡ of_z w64 z → t ≡ (2 ^ 51 + (2 ^ 64 - b)) % 2 ^ 64 → t < 2 ^ 52
+zero_low z b t e p q = let n : b ≡ 0 = p ∙ ap (of_z w64) e in omega arith
 
 mapped : (xs : List ℕ) (k : ℕ) → k < length xs → lane (map (of_bits binary64) xs) k ≡ of_bits binary64 (get_or xs k 0)
 mapped [] k l = absurd (omega arith)

@@ -57,7 +57,7 @@ whole_near n d t D h i =
         let k : x * d ≡ x * 1 = ap (λ (j : ℕ). x * j) g in
         omega arith
 
--- the same for a difference
+-- rounding a difference between 2^52 and 2^53 to an integer changes it by at most 1/2
 pub integer_near : (t : Float) (a b c n : ℕ) → 0 < c → 2 ^ 52 * c + b ≤ a → a < 2 ^ 53 * c + b → IsRounded t a b c → IsInteger t n → (2 * (n * c + b) ≤ 2 * a + c) × (2 * a ≤ 2 * (n * c + b) + c)
 integer_near t a b c n C many few r i = by r.0 r.1 r.2 r.3
   where

@@ -8,13 +8,13 @@ use Rattle.std.proofs.lemmas.Int.{ints, to_z_pos}
 use Rattle.std.proofs.lemmas.Nat.{and_le_l, and_le_r}
 use Rattle.std.proofs.lemmas.Simd.{length-zip2, get_or-zip2, get_or-replicate, bit_mask_l, tops_compared, length-sel_l, get_or-sel_l}
 use lib.Ieee.{Float, nan, inf, fin, binary64, le, lt, fits, add, sub, mul, neg, is_nan, of_bits, to_bits}
-use Rattle.float_filters.specs.Floors.{HasFloats, IsSet, lane, IsFinite, IsCertified, positive_part, negative_part, halved, middle, half, IsInteger}
+use Rattle.float_filters.specs.Floors.{HasFloats, IsFull, IsSet, IsZero, lane, minus_half, IsFinite, IsCertified, positive_part, negative_part, halved, middle, half, IsInteger}
 use Rattle.float_filters.specs.Near.{denominator}
 use Rattle.fixed.specs.Roots.{root}
 use Rattle.fixed.specs.Rounding.{IsFloor}
 use Rattle.float_filters.specs.Forces.{IsLine, IsSize, float_component_of, least_of, magnitude, margin_of, ratio_of, room_of}
-use Rattle.float_filters.proofs.ForceLaws.{force_lane}
-use Rattle.float_filters.proofs.FloorLaws.{certified, half_is, middle_is, bits_of_integer}
+use Rattle.float_filters.proofs.ForceLaws.{force_lane, zero_sure}
+use Rattle.float_filters.proofs.FloorLaws.{certified, half_is, halved_zero, middle_is, rest_of_half, bits_of_integer}
 
 -- an operation on two vectors
 pub pointwise : (f : Float → Float → Float) (xs ys : List Float) → length xs ≡ 4 → length ys ≡ 4 → HasFloats (zip2 f xs ys) (λ k. f (lane xs k) (lane ys k))
@@ -72,6 +72,67 @@ set_again [] k h = h
 set_again (m ∷ ms) zero h = kept (of_z w64 m) h
 set_again (m ∷ ms) (suc k) h = set_again ms k h
 
+-- ---- lanes whose bits are all 1
+
+all_ones : (b : Bool) → T b → to_z w64 (cond b (2 ^ 64 - 1) 0) ≡ negsuc 0
+all_ones true t = refl
+all_ones false t = absurd t
+
+-- the lanes in which a comparison holds
+ones_where : {X : Type 0} (t : X → X → Bool) (d : X) (xs ys : List X) (k : ℕ) → k < length xs → k < length ys → T (t (get_or xs k d) (get_or ys k d)) → get_or (map (to_z w64) (zip2 (λ a b. cond (t a b) (2 ^ 64 - 1) 0) xs ys)) k (pos 0) ≡ negsuc 0
+ones_where t d [] ys k l m h = absurd (omega arith)
+ones_where t d (x ∷ xs) [] k l m h = absurd (omega arith)
+ones_where t d (x ∷ xs) (y ∷ ys) zero l m h = all_ones (t x y) h
+ones_where t d (x ∷ xs) (y ∷ ys) (suc k) l m h = ones_where t d xs ys k (omega arith) (omega arith) h
+
+pub full_where : {X : Type 0} (t : X → X → Bool) (d : X) (xs ys : List X) (k : ℕ) → length xs ≡ 4 → length ys ≡ 4 → k < 4 → T (t (get_or xs k d) (get_or ys k d)) → IsFull (map (to_z w64) (zip2 (λ a b. cond (t a b) (2 ^ 64 - 1) 0) xs ys)) k
+full_where t d xs ys k m n l h = record {
+  long = length-map (zip2 (λ a b. cond (t a b) (2 ^ 64 - 1) 0) xs ys) (to_z w64) ∙ length-zip2 (λ a b. cond (t a b) (2 ^ 64 - 1) 0) xs ys (m ∙ sym n) ∙ m;
+  bits = ones_where t d xs ys k (omega arith) (omega arith) h;
+}
+
+-- in both masks
+ones_both : (ms ns : List ℤ) (k : ℕ) → get_or ms k (pos 0) ≡ negsuc 0 → get_or ns k (pos 0) ≡ negsuc 0 → get_or (map (to_z w64) (zip2 bit_and (map (of_z w64) ms) (map (of_z w64) ns))) k (pos 0) ≡ negsuc 0
+ones_both [] ns k h g = absurd (omega (arith, ints, h))
+ones_both (m ∷ ms) [] k h g = absurd (omega (arith, ints, g))
+ones_both (m ∷ ms) (n ∷ ns) zero h g = λ i. to_z w64 (bit_and (of_z w64 (h i)) (of_z w64 (g i)))
+ones_both (m ∷ ms) (n ∷ ns) (suc k) h g = ones_both ms ns k h g
+
+pub full_both : (ms ns : List ℤ) (k : ℕ) → IsFull ms k → IsFull ns k → IsFull (map (to_z w64) (zip2 bit_and (map (of_z w64) ms) (map (of_z w64) ns))) k
+full_both ms ns k h g =
+    let a : length (map (of_z w64) ms) ≡ 4 = length-map ms (of_z w64) ∙ h.long in
+    let b : length (map (of_z w64) ns) ≡ 4 = length-map ns (of_z w64) ∙ g.long in
+    record {
+      long = length-map (zip2 bit_and (map (of_z w64) ms) (map (of_z w64) ns)) (to_z w64) ∙ length-zip2 bit_and (map (of_z w64) ms) (map (of_z w64) ns) (a ∙ sym b) ∙ a;
+      bits = ones_both ms ns k h.bits g.bits;
+    }
+
+-- in a mask that is handed on
+ones_again : (ms : List ℤ) (k : ℕ) → get_or ms k (pos 0) ≡ negsuc 0 → get_or (map (to_z w64) (map (of_z w64) ms)) k (pos 0) ≡ negsuc 0
+ones_again [] k h = h
+ones_again (m ∷ ms) zero h = λ i. to_z w64 (of_z w64 (h i))
+ones_again (m ∷ ms) (suc k) h = ones_again ms k h
+
+pub full_again : (ms : List ℤ) (k : ℕ) → IsFull ms k → IsFull (map (to_z w64) (map (of_z w64) ms)) k
+full_again ms k h = record { long = length-map (map (of_z w64) ms) (to_z w64) ∙ length-map ms (of_z w64) ∙ h.long; bits = ones_again ms k h.bits }
+
+pub full_set : (ms : List ℤ) (k : ℕ) → IsFull ms k → IsSet ms k
+full_set ms k h = subst (λ (z : ℤ). 2 ^ 63 ≤ of_z w64 z) (sym h.bits) (omega arith)
+
+-- four lanes
+four_ones : (ms : List ℤ) → length ms ≡ 4 → ((k : ℕ) → k < 4 → get_or ms k (pos 0) ≡ negsuc 0) → mask_l (map (top 63) (map (of_z w64) ms)) % 2 ^ 64 ≡ 15
+four_ones (a ∷ b ∷ c ∷ d ∷ []) m h = λ i. mask_l (map (top 63) (map (of_z w64) (h 0 (omega arith) i ∷ h 1 (omega arith) i ∷ h 2 (omega arith) i ∷ h 3 (omega arith) i ∷ []))) % 2 ^ 64
+four_ones [] m h = absurd (omega arith)
+four_ones (a ∷ []) m h = absurd (omega arith)
+four_ones (a ∷ b ∷ []) m h = absurd (omega arith)
+four_ones (a ∷ b ∷ c ∷ []) m h = absurd (omega arith)
+four_ones (a ∷ b ∷ c ∷ d ∷ e ∷ ms) m h = absurd (omega arith)
+
+pub all_full : (ms : List ℤ) → ((k : ℕ) → k < 4 → IsFull ms k) → mask_l (map (top 63) (map (of_z w64) ms)) % 2 ^ 64 ≡ 15
+all_full ms h = four_ones ms (h 0 (omega arith)).long (λ k l. (h k l).bits)
+
+-- ---- certified floors
+
 -- the steps of `floors` in one lane, by the results of the operations
 pub certified_lane : (p room least u t w e : Float) → u ≡ sub binary64 p (of_bits binary64 4602678819172646912) → t ≡ add binary64 u (of_bits binary64 4843621399236968448) → w ≡ sub binary64 t (of_bits binary64 4843621399236968448)
     → e ≡ sub binary64 u w → IsFinite p → positive_part p ≤ 2 ^ 50 * denominator p → negative_part p ≤ 2 ^ 50 * denominator p → T (fits binary64 room) → T (lt e room) → T (le least e)
@@ -82,6 +143,15 @@ certified_lane p room least u t w e a b c d number hi lo fr x y =
     let w' : w ≡ sub binary64 (add binary64 (halved p) middle) middle = c ∙ (λ i. sub binary64 (t' i) (middle_is i)) in
     let e' : e ≡ sub binary64 (halved p) (sub binary64 (add binary64 (halved p) middle) middle) = d ∙ (λ i. sub binary64 (u' i) (w' i)) in
     subst (λ (z : Float). IsCertified p room least z) (sym t') (certified p room least number hi lo fr (subst (λ (z : Float). T (lt z room)) e' x) (subst (λ (z : Float). T (le least z)) e' y))
+
+-- the rest of 0
+pub zero_lane : (p u t w e : Float) → u ≡ sub binary64 p (of_bits binary64 4602678819172646912) → t ≡ add binary64 u (of_bits binary64 4843621399236968448) → w ≡ sub binary64 t (of_bits binary64 4843621399236968448)
+    → e ≡ sub binary64 u w → IsZero p → e ≡ minus_half
+zero_lane p u t w e a b c d z =
+    let u' : u ≡ minus_half = a ∙ ap (sub binary64 p) half_is ∙ halved_zero p z in
+    let t' : t ≡ add binary64 minus_half middle = b ∙ (λ i. add binary64 (u' i) (middle_is i)) in
+    let w' : w ≡ sub binary64 (add binary64 minus_half middle) middle = c ∙ (λ i. sub binary64 (t' i) (middle_is i)) in
+    d ∙ (λ i. sub binary64 (u' i) (w' i)) ∙ rest_of_half
 
 -- where the comparison of the rest holds, the integer is a number
 no_rest : (u y : Float) → is_nan (sub binary64 u (sub binary64 nan y)) ≡ true
@@ -213,3 +283,14 @@ force_of_lane s g a size r x slack q m room least p t q' m' room' least' p' exac
     (subst (λ (y : Float). IsFinite y → positive_part y ≤ 2 ^ 50 * denominator y → negative_part y ≤ 2 ^ 50 * denominator y → IsCertified y (room_of size r slack) (least_of size r slack) t) c
     (subst (λ (y : Float). IsFinite p → positive_part p ≤ 2 ^ 50 * denominator p → negative_part p ≤ 2 ^ 50 * denominator p → IsCertified p (room_of size r slack) y t) w
     (subst (λ (y : Float). IsFinite p → positive_part p ≤ 2 ^ 50 * denominator p → negative_part p ≤ 2 ^ 50 * denominator p → IsCertified p y least t) v cert)))
+
+-- a lane without a force
+pub zero_of_lane : (s : ℕ) (a : ℤ) (size r x slack q m room least p : Float) → q ≡ ratio_of size r → m ≡ mul binary64 (magnitude q) slack → room ≡ sub binary64 half m → least ≡ sub binary64 m (of_bits binary64 4602678819172646912)
+    → p ≡ mul binary64 q x → IsSize (pos 0) size → IsLine s a r x slack → IsZero p × T (lt minus_half room) × T (le least minus_half)
+zero_of_lane s a size r x slack q m room least p q' m' room' least' p' exact line =
+    let u : m ≡ margin_of size r slack = m' ∙ ap (λ (y : Float). mul binary64 (magnitude y) slack) q' in
+    let v : room ≡ room_of size r slack = room' ∙ ap (sub binary64 half) u in
+    let w : least ≡ least_of size r slack = least' ∙ (λ i. sub binary64 (u i) (half_is i)) in
+    let c : p ≡ float_component_of size r x = p' ∙ ap (λ (y : Float). mul binary64 y x) q' in
+    let z = zero_sure s a size r x slack exact line in
+    (subst IsZero (sym c) z.0, subst (λ (y : Float). T (lt minus_half y)) (sym v) z.1, subst (λ (y : Float). T (le y minus_half)) (sym w) z.2)

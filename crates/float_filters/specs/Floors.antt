@@ -2,8 +2,8 @@
 use Rattle.std.specs.Prelude.{ℕ, ℤ, T, true, false, cond, pos, negsuc, List, length, slice_index_or, ◌≡◌, ◌+◌, ◌*◌, ◌^◌, ◌<◌, ◌≤◌}
 use Rattle.std.specs.Float.{NotNan}
 use Rattle.std.specs.Int.{cast_unsigned, w64}
-use Rattle.std.specs.Float.Ieee.{Float, nan, inf, fin, up, binary64, sub, lt}
-use Rattle.float_filters.specs.Near.{denominator}
+use Rattle.std.specs.Float.Ieee.{Float, nan, inf, fin, up, binary64, sub, lt, le}
+use Rattle.float_filters.specs.Near.{numerator, denominator}
 
 -- a finite float is (positive_part - negative_part) / denominator, and one of the two parts is 0
 abbrev pub positive_part : Float → ℕ
@@ -56,6 +56,11 @@ pub record HasFloats (v : List Float) (f : ℕ → Float) : Type 0 where
 abbrev pub IsSet : List ℤ → ℕ → Type 0
 IsSet mask k = 2 ^ 63 ≤ cast_unsigned w64 (slice_index_or mask k (pos 0))
 
+-- the mask has four lanes, and all bits of lane k are 1
+pub record IsFull (mask : List ℤ) (k : ℕ) : Type 0 where
+  pub long : length mask ≡ 4
+  pub bits : slice_index_or mask k (pos 0) ≡ negsuc 0
+
 -- ---- certified floors
 
 -- the float is the integer n, which is between 2^52 and 2^53
@@ -70,6 +75,15 @@ pub record IsInteger (t : Float) (n : ℕ) : Type 0 where
 -- 1/2
 abbrev pub half : Float
 half = fin false 1 (negsuc 0)
+
+-- -1/2
+abbrev pub minus_half : Float
+minus_half = fin true 1 (negsuc 0)
+
+-- 0, with either sign
+pub record IsZero (x : Float) : Type 0 where
+  pub finite : IsFinite x
+  pub none : numerator x ≡ 0
 
 -- 3 * 2^51, in the middle of the floats between 2^52 and 2^53
 abbrev pub middle : Float
@@ -95,3 +109,7 @@ pub record AreCertified (p room least t : List Float) (mask : List ℤ) : Type 0
   pub ordered : (k : ℕ) → k < 4 → IsSet mask k → T (lt (lane least k) (lane room k))
   pub each : (k : ℕ) → k < 4 → IsSet mask k → IsFinite (lane p k) → positive_part (lane p k) ≤ 2 ^ 50 * denominator (lane p k)
       → negative_part (lane p k) ≤ 2 ^ 50 * denominator (lane p k) → IsCertified (lane p k) (lane room k) (lane least k) (lane t k)
+
+-- A lane is set if p is 0, and -1/2 is at least `least` and less than `room`.
+pub record AreZerosSure (p room least : List Float) (mask : List ℤ) : Type 0 where
+  pub each : (k : ℕ) → k < 4 → IsZero (lane p k) → T (lt minus_half (lane room k)) → T (le (lane least k) minus_half) → IsFull mask k

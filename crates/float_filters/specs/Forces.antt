@@ -5,7 +5,7 @@ use Rattle.std.specs.Float.{NotNan}
 use Rattle.fixed.specs.Roots.{root}
 use Rattle.fixed.specs.Rounding.{IsFloor}
 use Rattle.float_filters.specs.Near.{HasSign, IsNearInteger, IsNearRoot, numerator, denominator}
-use Rattle.float_filters.specs.Floors.{IsInteger, IsSet, half, halved, lane, positive_part}
+use Rattle.float_filters.specs.Floors.{IsFull, IsInteger, IsSet, half, halved, lane, positive_part}
 
 -- x, or -x if x is less than 0
 abbrev pub magnitude : Float → Float
@@ -63,3 +63,17 @@ pub record AreForceFloors (sizes lengths x : List Float) (slack : Float) (t : Li
 pub record AreComponents (slopes : List ℤ) (lengths x : List Float) (slack : Float) (v : List ℤ) : Type 0 where
   pub each : (k : ℕ) → k < 4 → (s : ℕ) (a : ℤ) → IsLine s a (lane lengths k) (lane x k) slack
       → IsFloor (neg_ℤ (slice_index_or slopes k (pos 0)) *ℤ a) (pos (root s)) (slice_index_or v k (pos 0))
+
+-- lane k of the floats stands for a line with three components
+pub record HasLine (lengths x y z : List Float) (slack : Float) (k : ℕ) : Type 0 where
+  pub square : ℕ
+  pub along_x : ℤ
+  pub along_y : ℤ
+  pub along_z : ℤ
+  pub line_x : IsLine square along_x (lane lengths k) (lane x k) slack
+  pub line_y : IsLine square along_y (lane lengths k) (lane y k) slack
+  pub line_z : IsLine square along_z (lane lengths k) (lane z k) slack
+
+-- a lane is set if there is no force along its line
+pub record AreZeroForcesSure (sizes lengths x y z : List Float) (slack : Float) (mask : List ℤ) : Type 0 where
+  pub each : (k : ℕ) → k < 4 → IsSize (pos 0) (lane sizes k) → HasLine lengths x y z slack k → IsFull mask k

@@ -1,11 +1,12 @@
 //! Certified floors of four floats: estimates by adding 3 * 2^51, and a mask of the lanes whose estimate is the floor.
 //!
 //! Between 2^52 and 2^53 the floats are the integers, so adding 3 * 2^51 to `p - 1/2` rounds to an integer. The
-//! part that the rounding took off is the distance of `p - 1/2` from that integer.
+//! part that the rounding took off is the distance of `p - 1/2` from that integer. This part is at most 1/2, and a float
+//! itself, so the subtraction that finds it is exact.
 
 ghost use Rattle.std.specs.Prelude.{◌≡◌, ℕ, pos, ◌+◌, ◌-◌, ◌*◌, ◌%◌, ◌^◌, ◌<◌, ◌≤◌, ◌-ℤ◌, slice_index, slice_index_or};
 ghost use Rattle.std.specs.Float.{NotNan};
-ghost use Rattle.float_filters.specs.Floors.{AreCertified, IsInteger, lane};
+ghost use Rattle.float_filters.specs.Floors.{AreCertified, AreZerosSure, IsInteger, lane};
 
 use crate::vectors::{at_most, both, differences, less, minus, plus};
 use std::simd::prelude::*;
@@ -19,10 +20,11 @@ const PATTERN_OF_MIDDLE: u64 = 0x4338_0000_0000_0000;
 ///
 /// In a lane that is set, `p - 1/2`, rounded, minus the integer is at least `least` and less than `room`. So the
 /// integer is the floor of each number that is nearer to `p` than the bounds are to -1/2 and 1/2; `p` is at most 2^50
-/// in magnitude. A lane is not set if `p` or a bound is a NaN.
+/// in magnitude. A lane is not set if `p` or a bound is a NaN; it is set if `p` is 0 and -1/2 is within the bounds.
 #[inline(always)]
 pub fn floors(p: f64x4, room: f64x4, least: f64x4) -> (f64x4, Mask<i64, 4>)
-    ensures { AreCertified p room least result.0 result.1 }
+    ensures certified { AreCertified p room least result.0 result.1 }
+    ensures zeros { AreZerosSure p room least result.1 }
 {
     let u = minus(p, 0.5);
     let t = plus(u, MIDDLE);

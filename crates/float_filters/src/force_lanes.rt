@@ -4,11 +4,11 @@
 //! of the line. The float c = g / (length - 1/2) x is nearer to g a / L than the ratio times 1/2 and a few parts in
 //! 2^53 of L. So c decides the floor unless it is nearer to an integer.
 
-ghost use Rattle.std.specs.Prelude.{◌≡◌, ℕ, pos, ◌+◌, ◌-◌, ◌*◌, ◌%◌, ◌^◌, ◌<◌, ◌≤◌, neg_ℤ, slice_index, slice_index_or, FitsSigned, IfSome};
+ghost use Rattle.std.specs.Prelude.{◌≡◌, ℕ, pos, ◌+◌, ◌-◌, ◌*◌, ◌%◌, ◌^◌, ◌<◌, ◌≤◌, neg_ℤ, slice_index, slice_index_or, FitsSigned, IfSome, IsSome};
 ghost use Rattle.std.specs.Int.{cast_unsigned, w64};
 ghost use Rattle.std.specs.Float.Ieee.{binary64, of_bits};
-ghost use Rattle.float_filters.specs.Floors.{HasFloats, IsSet, lane};
-ghost use Rattle.float_filters.specs.Forces.{AreComponents, AreForceFloors, IsSize, IsSlack, ratio_of};
+ghost use Rattle.float_filters.specs.Floors.{HasFloats, IsFull, IsSet, lane};
+ghost use Rattle.float_filters.specs.Forces.{AreComponents, AreForceFloors, AreZeroForcesSure, HasLine, IsSize, IsSlack, ratio_of};
 ghost use Rattle.float_filters.specs.Near.{IsNearRoot};
 ghost use Rattle.fixed.specs.Roots.{root};
 
@@ -50,7 +50,8 @@ fn below_bias(bits: u64x4) -> u64x4
 /// The lanes that are below 2^52.
 #[inline(always)]
 fn are_low(n: u64x4) -> Mask<i64, 4>
-    ensures { (k : ℕ) → k < 4 → IsSet result k → slice_index n k < 2 ^ 52 }
+    ensures set { (k : ℕ) → k < 4 → IsSet result k → slice_index n k < 2 ^ 52 }
+    ensures full { (k : ℕ) → k < 4 → slice_index n k < 2 ^ 52 → IsFull result k }
 {
     (n & u64x4::splat(!LOW)).simd_eq(u64x4::splat(0))
 }
@@ -66,7 +67,8 @@ fn raised(n: u64x4) -> f64x4
 /// Minus four integers as floats, and a mask of the lanes in which they are exact: integers between -2^51 and 2^51.
 #[inline(always)]
 fn opposites(z: [i64; 4]) -> (f64x4, Mask<i64, 4>)
-    ensures { (k : ℕ) → k < 4 → IsSet result.1 k → IsSize (neg_ℤ (slice_index_or z k (pos 0))) (lane result.0 k) }
+    ensures sizes { (k : ℕ) → k < 4 → IsSet result.1 k → IsSize (neg_ℤ (slice_index_or z k (pos 0))) (lane result.0 k) }
+    ensures zeros { (k : ℕ) → k < 4 → slice_index_or z k (pos 0) ≡ pos 0 → IsFull result.1 k }
 {
     let n = below_bias(unsigned(z));
     (minus(raised(n), MIDDLE), are_low(n))
@@ -98,7 +100,7 @@ pub struct ForceFloors {
 }
 
 /// The components of four forces of these sizes along lines with these lengths and components. The slack is about
-/// 3/4 and 2^-49 of the greatest length.
+/// 3/4 and 2^-49 of the greatest length. A lane whose size is 0 is set if its floats stand for a line.
 #[inline(always)]
 pub fn force_floors(
     sizes: f64x4,
@@ -111,6 +113,7 @@ pub fn force_floors(
     ensures x { AreForceFloors sizes lengths x slack result.x result.sure }
     ensures y { AreForceFloors sizes lengths y slack result.y result.sure }
     ensures z { AreForceFloors sizes lengths z slack result.z result.sure }
+    ensures zeros { AreZeroForcesSure sizes lengths x y z slack result.sure }
 {
     let ratios = ratios(sizes, lengths);
     let margins = times(magnitudes(ratios), slack);
@@ -138,8 +141,8 @@ pub struct FourForces {
 /// The forces of minus four slopes along lines with these lengths and components, rounded down; none if a component
 /// isn't sure. The slack is that of `force_slack`.
 ///
-/// The contract leaves open when there are none; this only decides how often the exact form runs. A slope of 2^51 or
-/// more in magnitude is never sure.
+/// A slope of 0 along a line is sure. A slope of 2^51 or more in magnitude never is. Otherwise the contract leaves
+/// open when there are none; this only decides how often the exact form runs.
 #[inline(always)]
 pub fn forces(
     slopes: [i64; 4],
@@ -152,6 +155,7 @@ pub fn forces(
     ensures x { IfSome result (λ v. AreComponents slopes lengths x slack v.x) }
     ensures y { IfSome result (λ v. AreComponents slopes lengths y slack v.y) }
     ensures z { IfSome result (λ v. AreComponents slopes lengths z slack v.z) }
+    ensures zeros { ((k : ℕ) → k < 4 → (slice_index_or slopes k (pos 0) ≡ pos 0) × HasLine lengths x y z slack k) → IsSome result }
 {
     let (sizes, exact) = opposites(slopes);
     let found = force_floors(sizes, lengths, x, y, z, slack);

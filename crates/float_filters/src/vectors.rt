@@ -2,7 +2,7 @@
 
 ghost use Rattle.std.specs.Prelude.{ℕ, ◌<◌, IsTrue, T};
 ghost use Rattle.std.specs.Float.Ieee.{binary64, add, div, le, lt, mul, sub};
-ghost use Rattle.float_filters.specs.Floors.{HasFloats, IsSet, half, lane};
+ghost use Rattle.float_filters.specs.Floors.{HasFloats, IsFull, IsSet, half, lane};
 ghost use Rattle.float_filters.specs.Forces.{magnitude};
 
 use std::simd::prelude::*;
@@ -74,7 +74,8 @@ pub(crate) fn magnitudes(x: f64x4) -> f64x4
 /// The lanes in which `x` is less than `y`.
 #[inline(always)]
 pub(crate) fn less(x: f64x4, y: f64x4) -> Mask<i64, 4>
-    ensures { (k : ℕ) → k < 4 → IsSet result k → T (lt (lane x k) (lane y k)) }
+    ensures set { (k : ℕ) → k < 4 → IsSet result k → T (lt (lane x k) (lane y k)) }
+    ensures full { (k : ℕ) → k < 4 → T (lt (lane x k) (lane y k)) → IsFull result k }
 {
     x.simd_lt(y)
 }
@@ -82,7 +83,8 @@ pub(crate) fn less(x: f64x4, y: f64x4) -> Mask<i64, 4>
 /// The lanes in which `x` is at most `y`.
 #[inline(always)]
 pub(crate) fn at_most(x: f64x4, y: f64x4) -> Mask<i64, 4>
-    ensures { (k : ℕ) → k < 4 → IsSet result k → T (le (lane x k) (lane y k)) }
+    ensures set { (k : ℕ) → k < 4 → IsSet result k → T (le (lane x k) (lane y k)) }
+    ensures full { (k : ℕ) → k < 4 → T (le (lane x k) (lane y k)) → IsFull result k }
 {
     x.simd_le(y)
 }
@@ -98,7 +100,8 @@ pub(crate) fn are_at_least(x: f64x4, y: f64) -> Mask<i64, 4>
 /// The lanes that are set in both masks.
 #[inline(always)]
 pub fn both(m: Mask<i64, 4>, n: Mask<i64, 4>) -> Mask<i64, 4>
-    ensures { (k : ℕ) → k < 4 → IsSet result k → IsSet m k × IsSet n k }
+    ensures set { (k : ℕ) → k < 4 → IsSet result k → IsSet m k × IsSet n k }
+    ensures full { (k : ℕ) → k < 4 → IsFull m k → IsFull n k → IsFull result k }
 {
     m & n
 }
@@ -106,7 +109,8 @@ pub fn both(m: Mask<i64, 4>, n: Mask<i64, 4>) -> Mask<i64, 4>
 /// Whether all lanes are set.
 #[inline(always)]
 pub fn are_all_set(m: Mask<i64, 4>) -> bool
-    ensures { IsTrue result → (k : ℕ) → k < 4 → IsSet m k }
+    ensures set { IsTrue result → (k : ℕ) → k < 4 → IsSet m k }
+    ensures full { ((k : ℕ) → k < 4 → IsFull m k) → IsTrue result }
 {
     m.all()
 }

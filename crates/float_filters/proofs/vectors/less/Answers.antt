@@ -1,5 +1,9 @@
-use Rattle.float_filters.proofs.VectorLaws.{less_set}
+use lib.Ieee.{nan, lt}
+use Rattle.float_filters.proofs.VectorLaws.{less_set, full_where}
 use Rattle.float_filters.proofs.vectors.less.Goals as goal
 
-pub returns : goal.returns
-returns c k l s = less_set c.args.x c.args.y k s
+pub returns-clause-set : goal.returns-clause-set
+returns-clause-set c k l s = less_set c.args.x c.args.y k s
+
+pub returns-clause-full : goal.returns-clause-full
+returns-clause-full c k l t = full_where lt nan c.args.x c.args.y k c.fits-x.0 c.fits-y.0 l t
