@@ -91,23 +91,6 @@ impl ActingPair {
         let g = minus_slope.raw();
         line.force_near(g, line.force_estimate(g))
     }
-
-    /// The force on the first atom in kJ/mol/nm, given minus dU/dr at that distance. `estimate` is tested first, and is
-    /// usually exact. `minus_slope` isn't the least i64.
-    #[inline(always)]
-    pub fn force_near(self, minus_slope: Fx, estimate: Vector<i64>) -> Vector<i64>
-        requires { unsigned_abs minus_slope < 2 ^ 63 }
-        ensures value { result ≡ force_of self minus_slope }
-        ensures bound { IsWithin (unsigned_abs minus_slope) result }
-    {
-        let line = PairLine {
-            x: self.x,
-            y: self.y,
-            z: self.z,
-            length: self.length,
-        };
-        line.force_near(minus_slope.raw(), estimate)
-    }
 }
 
 /// A coarse length of `places` grid units on this side, rounded down, in units of 2^40 times 10^-5 nm / 2^32 (about

@@ -1,17 +1,20 @@
 //! Batches of interacting pairs, stored contiguously, so that each stage runs for all pairs of a batch before the next
 //! stage.
 
-ghost use Rattle.std.specs.Prelude.{◌≡◌, ◌+◌, ◌<◌, ◌^◌, Some, length, slice_get};
-ghost use Rattle.ring_box.specs.Distances.{square, square_of, x_separation, y_separation, z_separation};
+ghost use Rattle.std.specs.Prelude.{◌≡◌, ◌+◌, ◌<◌, ◌≤◌, ◌^◌, IsTrue, Some, length, neg_ℤ, slice_get, unsigned_abs};
+ghost use Rattle.ring_box.specs.Distances.{x_separation, y_separation, z_separation};
 
 use crate::acting::ActingPair;
 use crate::boxes::RingBox;
-use crate::line_estimates::LineEstimates;
+use crate::float_reaches::FloatReach;
+use crate::float_rows::{four_raw, put_four};
 use crate::lines::length_near;
+use crate::pair_forces::PairForces;
 use crate::reaches::Reach;
-use crate::separations::Separation;
+use crate::separations::{FloatSeparation, Separation};
 use crate::vectors::{Place3, Vector};
-use fixed::{Frac, Fx};
+use fixed::{Frac, Fx, floor_estimate};
+use float_filters::{FourForces, force_slack, forces, four, near_lengths};
 use std::marker::Model;
 
 /// An interacting pair: the indices of both atoms in a frame, and the geometry of the pair.
@@ -22,23 +25,12 @@ pub struct FoundPair {
     pub acting: ActingPair,
 }
 
-/// Two atoms by their indices, their separation and its square.
+/// Two atoms by their indices, and their separation.
 #[derive(Clone, Copy)]
-struct PairInReach {
+pub(crate) struct PairInReach {
     pub low: u32,
     pub high: u32,
     pub separation: Separation,
-    pub squared: u128,
-
-    ghost whole: { squared ≡ square separation.x + square separation.y + square separation.z },
-    ghost bound: { squared < 2 ^ 112 },
-}
-
-/// The length of a pair's line, and the distance at which its force is evaluated.
-#[derive(Clone, Copy)]
-struct Measure {
-    pub length: u64,
-    pub distance: Fx,
 }
 
 impl RingBox {
@@ -50,105 +42,191 @@ impl RingBox {
         ensures x { result.separation.x ≡ x_separation self.now p q }
         ensures y { result.separation.y ≡ y_separation self.now p q }
         ensures z { result.separation.z ≡ z_separation self.now p q }
-        ensures squared { result.squared ≡ square_of self.now p q }
     {
-        let separation = self.separation(p, q);
         PairInReach {
             low,
             high,
-            separation,
-            squared: separation.square(),
+            separation: self.separation(p, q),
         }
     }
 }
 
-// ---- measures
+// ---- exact arithmetic
+
+fn both(a: bool, b: bool) -> bool
+    ensures { IsTrue result → IsTrue a × IsTrue b }
+{
+    a && b
+}
 
 impl Reach {
-    ghost use Rattle.ring_box.specs.Acting.{limit_of};
-    ghost use Rattle.ring_box.specs.FoundPairs.{AreInReach, AreMeasured, IsMeasure};
+    ghost use Rattle.ring_box.specs.FoundPairs.{AreApart, AreFourMeasured, AreInReach, AreNearLengths, AreTaken, IsBelowLimit, IsMeasured};
 
-    /// The measure of a pair within reach. `estimate` is an estimate of the length of its line.
-    #[inline(always)]
-    fn measure(&self, pair: PairInReach, estimate: u64) -> Measure
-        requires { pair.squared < limit_of self.now.frac self.now.cutoff }
-        ensures { IsMeasure self.now pair result }
+    /// The distance at which the force of a pair is evaluated, and whether its atoms are at different positions. `length`
+    /// is an estimate of the length of its line.
+    fn exact_distance(&self, pair: PairInReach, length: f64) -> (Fx, bool)
+        requires { IsBelowLimit self.now pair }
+        ensures { IsMeasured self.now pair result.1 result.0 }
     {
-        let length = length_near(pair.squared, estimate);
-        Measure {
-            length,
-            distance: self.distance(pair.squared, length),
-        }
+        let s = pair.separation.square();
+        let estimate = floor_estimate(length).cast_unsigned();
+        (self.distance(s, length_near(s, estimate)), s != 0)
     }
 
-    /// Measures the first `count` pairs, all of which are within reach.
-    fn measure_all(
+    /// Writes the distances of at most four of the first `count` pairs, from the index `first` on, in exact arithmetic.
+    /// Returns whether the atoms of each are at different positions. `lengths` are estimates of the lengths of their
+    /// lines.
+    #[cold]
+    #[inline(never)]
+    fn find_exact_distances(
         &self,
         pairs: &[PairInReach; 128],
+        lengths: &[f64; 128],
+        first: usize,
         count: usize,
-        estimates: &LineEstimates,
-        measures: &mut [Measure; 128],
-    )
-        requires { AreInReach self.now count pairs.now }
-        ensures { AreMeasured self.now count pairs.now measures.new }
+        distances: &mut [i64; 128],
+    ) -> bool
+        requires room { first + 4 ≤ 128 }
+        requires pairs { AreInReach self.now count pairs.now }
+        ensures { AreFourMeasured self.now count pairs.now first result distances.old distances.new }
     {
-        for l in 0..count {
-            measures[l] = self.measure(pairs[l], estimates.length(l));
+        let mut apart = true;
+        for l in first..count.min(first + 4) {
+            let (distance, is_apart) = self.exact_distance(pairs[l], lengths[l]);
+            distances[l] = distance.raw();
+            apart = both(apart, is_apart);
         }
+        apart
+    }
+
+    /// Writes the distances at which the forces of the first `count` pairs are evaluated, given floats near the lengths
+    /// of their lines. Returns whether the atoms of each pair are at different positions.
+    fn find_distances(
+        &self,
+        pairs: &[PairInReach; 128],
+        lengths: &[f64; 128],
+        count: usize,
+        distances: &mut [i64; 128],
+    ) -> bool
+        requires pairs { AreInReach self.now count pairs.now }
+        requires lengths { AreNearLengths count pairs.now lengths.now }
+        ensures taken { AreTaken self.now count pairs.now distances.new }
+        ensures apart { IsTrue result → AreApart count pairs.now }
+    {
+        let filter = self.filter();
+        let mut apart = true;
+        for i in 0..(count + 3) / 4 {
+            match filter.distances(four(lengths, 4 * i)) {
+                Some(found) => put_four(distances, 4 * i, found),
+                None => {
+                    let are_apart = self.find_exact_distances(
+                        pairs,
+                        lengths,
+                        4 * i,
+                        count,
+                        distances,
+                    );
+                    apart = both(apart, are_apart);
+                }
+            }
+        }
+        apart
+    }
+}
+
+/// The negative of a derivative, as an integer.
+fn opposite(slope: Fx) -> i64
+    requires { unsigned_abs slope < 2 ^ 63 }
+    ensures value { result ≡ neg_ℤ slope }
+    ensures bound { unsigned_abs result < 2 ^ 63 }
+{
+    -slope.raw()
+}
+
+impl PairInReach {
+    ghost use Rattle.ring_box.specs.FoundPairs.{line_force_on};
+
+    /// The force on the first atom, given the derivative dU/dr, in exact arithmetic. `length` is an estimate of the
+    /// length of the line.
+    fn exact_force(self, slope: Fx, length: f64) -> Vector<i64>
+        requires { unsigned_abs slope < 2 ^ 63 }
+        ensures { result ≡ line_force_on self (neg_ℤ slope) }
+    {
+        let estimate = floor_estimate(length).cast_unsigned();
+        let line = self
+            .separation
+            .line_near(self.separation.square(), estimate);
+        let g = opposite(slope);
+        line.force_near(g, line.force_estimate(g))
     }
 }
 
 // ---- found pairs
 
 /// A batch of at most 128 interacting pairs. Each stage runs for the whole batch: `put` collects pairs, `measure` finds
-/// their lengths and distances, and once the slopes are known, forces are estimated. Floating-point estimates of one
-/// stage serve the next; an exact test decides before one is used.
+/// their distances, and once the derivatives are known, `forces` finds the forces.
+///
+/// Floating-point arithmetic decides each stage's result if its rounding errors can't change the result; otherwise
+/// exact integer arithmetic does.
 #[derive(Drop)]
 pub struct FoundPairs {
     reach: Reach,
+    near: FloatReach,
     count: usize,
     pairs: [PairInReach; 128],
+    x: [f64; 128],
+    y: [f64; 128],
+    z: [f64; 128],
+    squares: [f64; 128],
+    lengths: [f64; 128],
     measured: usize,
-    measures: [Measure; 128],
-    estimates: LineEstimates,
+    // whether no measured pair has both atoms at one position
+    apart: bool,
+    distances: [i64; 128],
 }
 
 impl Model for FoundPairs {
     ghost use Rattle.std.specs.Prelude.{map, take};
-    ghost use Rattle.ring_box.specs.FoundPairs.{AreHeld, FoundPairs, found_from};
+    ghost use Rattle.ring_box.specs.FloatReaches.{IsNearReach};
+    ghost use Rattle.ring_box.specs.FoundPairs.{AreHeld, AreMeasured, FoundPairs, found_from};
 
     ghost Value = { FoundPairs };
 
     ghost view = { λ f. record { reach = f.reach; pairs = map (found_from f.reach) (take f.count f.pairs); measured = f.measured } };
 
-    ghost invariant = { λ f. AreHeld f.reach f.count f.pairs f.measured f.measures };
+    ghost invariant = { λ f. IsNearReach f.reach f.near × AreHeld f.reach f.count f.pairs f.x f.y f.z f.squares
+        × AreMeasured f.reach f.count f.pairs f.lengths f.measured f.apart f.distances };
 }
 
 impl FoundPairs {
-    ghost use Rattle.std.specs.Prelude.{[], ◌≤◌, ◌≤ℤ◌, ◌<ℤ◌};
-    ghost use Rattle.ring_box.specs.FoundPairs.{found_pair_of, with_pair};
+    ghost use Rattle.std.specs.Prelude.{[], map, IfSome};
+    ghost use Rattle.ring_box.specs.FloatReaches.{IsReachSlack};
+    ghost use Rattle.ring_box.specs.FoundPairs.{AreForcesOf, AreFourForces, AreFourPut, AreSlopesSmall, found_pair_of, with_pair};
 
     /// An empty batch, with a reach that `clear` replaces.
     pub fn new() -> FoundPairs
         ensures pairs { result.pairs ≡ [] }
         ensures measured { result.measured ≡ 0 }
     {
+        let reach = Reach::new(Frac::F32, Fx::from_raw(0), Fx::from_raw(1));
         let none = PairInReach {
             low: 0,
             high: 0,
             separation: Separation { x: 0, y: 0, z: 0 },
-            squared: 0,
         };
         FoundPairs {
-            reach: Reach::new(Frac::F32, Fx::from_raw(0), Fx::from_raw(1)),
+            reach,
+            near: reach.in_floats(),
             count: 0,
             pairs: [none; 128],
+            x: [0.0; 128],
+            y: [0.0; 128],
+            z: [0.0; 128],
+            squares: [0.0; 128],
+            lengths: [0.0; 128],
             measured: 0,
-            measures: [Measure {
-                length: 1,
-                distance: Fx::from_raw(0),
-            }; 128],
-            estimates: LineEstimates::new(),
+            apart: false,
+            distances: [0; 128],
         }
     }
 
@@ -165,6 +243,7 @@ impl FoundPairs {
         ensures { self.new ≡ record { reach = reach.now; pairs = []; measured = 0 } }
     {
         self.reach = *reach;
+        self.near = reach.in_floats();
         self.count = 0;
         self.measured = 0;
     }
@@ -179,61 +258,97 @@ impl FoundPairs {
     {
         let l = self.count;
         let pair = ring.numbered(low, high, p, q);
+        let near = ring.float_separation(p, q);
+        let square = near.square();
         self.pairs[l] = pair;
-        self.estimates.put(l, ring.float_separation(p, q));
-        self.count = l + usize::from(pair.squared < self.reach.limit());
+        self.x[l] = near.x;
+        self.y[l] = near.y;
+        self.z[l] = near.z;
+        self.squares[l] = square;
+        self.count = l + usize::from(self.reach.reaches(self.near, square, pair.separation));
     }
 
-    /// Computes the length of each pair's line, and the distance at which its force is evaluated.
+    /// Computes the distance at which the force of each pair is evaluated.
     pub fn measure(&mut self)
         ensures { self.new ≡ record { reach = self.old.reach; pairs = self.old.pairs; measured = length self.old.pairs } }
     {
         let count = self.count;
-        self.estimates.find_lengths(count);
-        self.reach
-            .measure_all(&self.pairs, count, &self.estimates, &mut self.measures);
+        near_lengths(&self.squares, count, &mut self.lengths);
+        self.apart = self
+            .reach
+            .find_distances(&self.pairs, &self.lengths, count, &mut self.distances);
         self.measured = count;
     }
 
-    /// The pair with the index `l`, which has been measured.
+    /// The indices of the atoms of the pair with the index `l`.
     #[inline(always)]
-    pub fn found(&self, l: usize) -> FoundPair
-        requires { l < self.now.measured }
-        ensures { slice_get self.now.pairs l ≡ Some result }
+    pub fn atoms(&self, l: usize) -> (u32, u32)
+        requires { l < length self.now.pairs }
+        ensures { slice_get (map (λ f. (f.low, f.high)) self.now.pairs) l ≡ Some result }
     {
-        let FoundPairs {
-            pairs,
-            measures,
-            ..
-        } = self;
+        let FoundPairs { pairs, .. } = self;
         let pair = pairs[l];
-        let measure = measures[l];
-        FoundPair {
-            low: pair.low,
-            high: pair.high,
-            acting: ActingPair {
-                x: pair.separation.x,
-                y: pair.separation.y,
-                z: pair.separation.z,
-                length: measure.length,
-                distance: measure.distance,
-            },
+        (pair.low, pair.high)
+    }
+
+    /// The distance at which the force of the pair with the index `l` is evaluated; the pair has been measured.
+    #[inline(always)]
+    pub fn distance(&self, l: usize) -> Fx
+        requires { l < self.now.measured }
+        ensures { slice_get (map (λ f. f.acting.distance) self.now.pairs) l ≡ Some result }
+    {
+        let FoundPairs { distances, .. } = self;
+        let distance = distances[l];
+        Fx::from_raw(distance)
+    }
+
+    /// The forces of four pairs from the index `l` on, from their derivatives; none if one isn't sure.
+    #[inline(always)]
+    fn four_forces(&self, l: usize, slopes: &[Fx; 128], slack: f64) -> Option<FourForces>
+        requires room { l + 4 ≤ 128 }
+        requires measured { self.now.measured ≡ length self.now.pairs }
+        requires slack { IsReachSlack self.now.reach slack }
+        ensures { IfSome result (AreFourForces self.now.pairs slopes.now l) }
+    {
+        if !self.apart {
+            return None;
+        }
+        forces(
+            four_raw(slopes, l),
+            four(&self.lengths, l),
+            four(&self.x, l),
+            four(&self.y, l),
+            four(&self.z, l),
+            slack,
+        )
+    }
+
+    /// Writes the forces of at most four pairs from the index `l` on, in exact arithmetic.
+    #[cold]
+    #[inline(never)]
+    fn put_exact_forces(&self, l: usize, slopes: &[Fx; 128], forces: &mut PairForces)
+        requires room { l + 4 ≤ 128 }
+        requires slopes { AreSlopesSmall (length self.now.pairs) slopes.now }
+        ensures { AreFourPut self.now.pairs slopes.now l forces.old forces.new }
+    {
+        for k in l..self.count.min(l + 4) {
+            forces.put(k, self.pairs[k].exact_force(slopes[k], self.lengths[k]));
         }
     }
 
-    /// Estimates the ratio of minus each pair's slope to the length of its line; `measure` has been called.
-    pub fn estimate_ratios(&mut self, slopes: &[Fx])
-        requires { length self.old.pairs ≤ length slopes.now }
-        ensures { self.new ≡ self.old }
+    /// Writes the force on the first atom of each pair, given the derivatives dU/dr at their distances; `measure` has
+    /// been called.
+    pub fn forces(&self, slopes: &[Fx; 128], forces: &mut PairForces)
+        requires measured { self.now.measured ≡ length self.now.pairs }
+        requires slopes { AreSlopesSmall (length self.now.pairs) slopes.now }
+        ensures { AreForcesOf self.now.pairs slopes.now forces.new }
     {
-        self.estimates.find_ratios(slopes, self.count);
-    }
-
-    /// An estimate of the force on the first atom of the pair with the index `l`; `estimate_ratios` has been called.
-    #[inline(always)]
-    pub fn force_estimate(&self, l: usize) -> Vector<i64>
-        requires { l < length self.now.pairs }
-    {
-        self.estimates.force(l)
+        let slack = force_slack(self.near.longest);
+        for i in 0..(self.count + 3) / 4 {
+            match self.four_forces(4 * i, slopes, slack) {
+                Some(found) => forces.put_four(4 * i, found),
+                None => self.put_exact_forces(4 * i, slopes, forces),
+            }
+        }
     }
 }

@@ -7,6 +7,7 @@ ghost use Rattle.ring_box.specs.Acting.{IsReach, limit_of};
 use crate::distances::{distance_by_root, edge};
 use crate::forces::outside_core;
 use fixed::{Frac, Fx};
+use float_filters::DistanceFilter;
 use std::marker::Model;
 
 /// The core and the cutoff of a pair force. The square of the cutoff is computed once, so that pairs are rejected by a
@@ -50,7 +51,8 @@ impl Reach {
     ghost use Rattle.std.specs.Int.{int_max};
     ghost use Rattle.fixed.specs.Fractions.{bits_of};
     ghost use Rattle.ring_box.specs.Acting.{IsReach, length_of, limit_of};
-    ghost use Rattle.ring_box.specs.Distances.{distance_at};
+    ghost use Rattle.ring_box.specs.Distances.{distance_at, unit_of};
+    ghost use Rattle.ring_box.specs.FloatReaches.{IsFilter, scale_of};
 
     /// The reach with this core and this cutoff, in nm. The caller ensures 0 <= `core` < `cutoff` <= 80 nm.
     pub fn new(frac: Frac, core: Fx, cutoff: Fx) -> Reach
@@ -65,6 +67,25 @@ impl Reach {
             cutoff,
             limit: limit(frac, cutoff),
         }
+    }
+
+    /// The factor of lengths that gives distances: a dividend and a divisor.
+    fn ratio(&self) -> (u32, u32)
+        ensures { result ≡ (scale_of self.now.frac, unit_of self.now.frac) }
+    {
+        match self.frac {
+            Frac::F24 => (1, 25_600_000),
+            Frac::F32 => (1, 100_000),
+            Frac::F40 => (256, 100_000),
+        }
+    }
+
+    /// The filter of the distances of pairs within reach.
+    pub(crate) fn filter(&self) -> DistanceFilter
+        ensures { IsFilter self.now result }
+    {
+        let (dividend, divisor) = self.ratio();
+        DistanceFilter::new(self.limit(), dividend, divisor, self.core.raw() as u64)
     }
 
     /// The least square of a separation that is out of reach, in units of (10^-5 nm / 2^32)^2.

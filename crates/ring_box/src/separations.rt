@@ -1,6 +1,7 @@
 //! Separations of two atoms, exact and in floating point.
 
-ghost use Rattle.std.specs.Prelude.{◌≡◌, ◌≤◌, ◌<◌, ◌+◌, ◌*◌, ◌^◌, unsigned_abs};
+ghost use Rattle.std.specs.Prelude.{ℤ, ◌≡◌, ◌≤◌, ◌<◌, ◌+◌, ◌*◌, ◌^◌, unsigned_abs};
+ghost use Rattle.float_filters.specs.Near.{IsNear, IsNearInteger};
 ghost use Rattle.ring_box.specs.Distances.{axis_separation, square, x_separation, y_separation, z_separation};
 
 use crate::boxes::RingBox;
@@ -8,6 +9,7 @@ use crate::places::diff;
 use crate::sides::Side;
 use crate::vectors::Place3;
 use fixed::floor_estimate;
+use float_filters::{near_separation, near_square};
 
 /// The separation of two atoms along each axis by the minimum image, in units of 10^-5 nm over 2^32.
 #[derive(Clone, Copy)]
@@ -50,7 +52,7 @@ impl RingBox {
     }
 }
 
-/// A floating-point estimate of a separation.
+/// Floats near the components of a separation.
 #[derive(Clone, Copy)]
 pub(crate) struct FloatSeparation {
     pub x: f64,
@@ -58,14 +60,25 @@ pub(crate) struct FloatSeparation {
     pub z: f64,
 }
 
+#[inline(always)]
+fn float_axis_separation(side: Side, x: u32, y: u32) -> f64
+    ensures { IsNearInteger 1 result (axis_separation side x y) }
+{
+    near_separation(diff(x, y), side.get())
+}
+
 impl RingBox {
+    ghost use Rattle.ring_box.specs.FloatSeparations.{IsNearSeparation};
+
     /// The separation in floating point.
     #[inline(always)]
-    pub(crate) fn float_separation(&self, p: Place3, q: Place3) -> FloatSeparation {
+    pub(crate) fn float_separation(&self, p: Place3, q: Place3) -> FloatSeparation
+        ensures { IsNearSeparation (x_separation self.now p q) (y_separation self.now p q) (z_separation self.now p q) result }
+    {
         FloatSeparation {
-            x: diff(p.x, q.x) as f64 * self.x.get() as f64,
-            y: diff(p.y, q.y) as f64 * self.y.get() as f64,
-            z: diff(p.z, q.z) as f64 * self.z.get() as f64,
+            x: float_axis_separation(self.x, p.x, q.x),
+            y: float_axis_separation(self.y, p.y, q.y),
+            z: float_axis_separation(self.z, p.z, q.z),
         }
     }
 
@@ -74,6 +87,19 @@ impl RingBox {
     pub(crate) fn root_estimate(&self, p: Place3, q: Place3) -> u64 {
         let FloatSeparation { x, y, z } = self.float_separation(p, q);
         floor_estimate((x * x + y * y + z * z).sqrt()).cast_unsigned()
+    }
+}
+
+impl FloatSeparation {
+    ghost use Rattle.ring_box.specs.FloatSeparations.{IsNearSeparation, squares_of};
+
+    /// A float near the square of a separation of at most 2^31 sides along each axis.
+    #[inline(always)]
+    pub(crate) fn square(self) -> f64
+        ensures { (a b c : ℤ) → unsigned_abs a ≤ 2 ^ 90 → unsigned_abs b ≤ 2 ^ 90 → unsigned_abs c ≤ 2 ^ 90 → IsNearSeparation a b c self
+            → IsNear 5 result (squares_of a b c) 1 }
+    {
+        near_square(self.x, self.y, self.z)
     }
 }
 

@@ -1,0 +1,12 @@
+use Rattle.std.proofs.Common.{◌≡◌, ◌∙◌, neg_ℤ, of_z, rules, to_z, w64}
+use Rattle.ring_box.proofs.FoundLemmas.{line_force_same}
+use Rattle.ring_box.proofs.found_pairs.PairInReach.exact_force.Goals as goal
+
+pub returns : goal.returns
+returns c =
+    let line = c.line_near-line.result in
+    let is = c.line_near-line.ensures in
+    let g = c.opposite-g.result in
+    let eg : to_z w64 (of_z w64 g) ≡ g = search rules in
+    c.force_near.ensures.value
+    ∙ line_force_same c.args.self (to_z w64 (of_z w64 g)) (neg_ℤ c.args.slope) line.x line.y line.z c.square.result line.length (eg ∙ c.opposite-g.ensures.value) is.x is.y is.z c.square.ensures.value is.length

@@ -1,0 +1,7 @@
+use Rattle.ring_box.specs.FoundPairs.{AreExactlyMeasured}
+use Rattle.ring_box.proofs.reaches.Reach.find_exact_distances.Given as goal
+
+abbrev pub invariant-loop-l : goal.invariant-loop-l
+invariant-loop-l l = record {
+  measured : AreExactlyMeasured l.self l.pairs l.first l.l l.apart l.fn.distances l.distances;
+}
