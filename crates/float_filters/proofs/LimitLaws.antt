@@ -1,5 +1,6 @@
 -- Comparisons of floats that are near exact numbers decide the order of these numbers.
-use Rattle.std.proofs.Common.{◌≡◌, ℕ, zero, suc, ◌+◌, ◌-◌, ◌*◌, ◌^◌, ◌<◌, ◌≤◌, Bool, true, false, refl, sym, ◌∙◌, true≢false, inl, inr, nat_lt, IsTrue, ◌||◌, arith}
+use Rattle.std.proofs.Common.{◌≡◌, ℕ, zero, suc, ◌+◌, ◌-◌, ◌*◌, ◌^◌, ◌<◌, ◌≤◌, Bool, true, false, refl, sym, ◌∙◌, true≢false, inl, inr, nat_lt, IsTrue, arith}
+use mathlib.Core.Bool.{not, beq}
 use Rattle.std.proofs.lemmas.Nat.{mul-le}
 use Rattle.std.proofs.Math.Nat.{mul-le-mul_right, mul-pos, lt_of_mul-lt-mul_right}
 use Rattle.std.proofs.lemmas.Bool.{cases_Bool}
@@ -73,14 +74,15 @@ ends_around limit x l f =
       high = scaled_limit limit (2 ^ 49 + 1) x _ l (omega arith) (omega arith) f more_than_one;
     }
 
-second_is_true : (a b : Bool) → a ≡ false → IsTrue (a || b) → b ≡ true
+-- of two comparisons with different results, of which the first is false, the second is true
+second_is_true : (a b : Bool) → a ≡ false → IsTrue (not (beq a b)) → b ≡ true
 second_is_true true b e h = absurd (true≢false e)
 second_is_true false true e h = refl
 second_is_true false false e h = absurd (true≢false (sym h))
 
 -- a square below the low end is below the limit, and one above the high end isn't
 pub verdict : (s limit : ℕ) (ends : FloatLimit) (x : Float) → IsAround limit ends → IsNear 5 x s 1
-    → IsTrue (lt x ends.low || lt ends.high x) → lt x ends.low ≡ nat_lt s limit
+    → IsTrue (not (beq (lt x ends.low) (lt ends.high x))) → lt x ends.low ≡ nat_lt s limit
 verdict s limit ends x around near sure =
     elim (cases_Bool (lt x ends.low)) [
       | inl is ↦ is ∙ sym (lt-ltb s limit (below_limit s limit _ _ _ _ (denominator_positive x) (denominator_positive ends.low) near.near around.low.near (less_values x ends.low near.sign around.low.sign is)))

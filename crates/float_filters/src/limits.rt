@@ -44,9 +44,10 @@ impl FloatLimit {
     {
         let below = square < self.low;
         let above = square > self.high;
+        // Never both. With `|` the compiler makes a branch of each, and `below` can't be predicted.
         Comparison {
             below,
-            sure: below | above,
+            sure: below != above,
         }
     }
 }
