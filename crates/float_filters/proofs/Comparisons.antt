@@ -168,7 +168,7 @@ at_least_value a b c x (fin s m e) v l =
     let g : (positive_part y * c + b * denominator y) * denominator x ≤ (a * denominator y + negative_part y * c) * denominator x = omega arith in
     le_of_mul-le-mul_right g (denominator_pos x)
 
-finite_between : (l x h : Float) → IsFinite l → IsFinite h → T (le l x) → T (le x h) → IsFinite x
+pub finite_between : (l x h : Float) → IsFinite l → IsFinite h → T (le l x) → T (le x h) → IsFinite x
 unfolding le lt eq
 finite_between nan x h p q s t = absurd p
 finite_between (inf r) x h p q s t = absurd p

@@ -136,7 +136,7 @@ near_sum k s x y a c b e C E h m f g =
 
 -- ---- quotients
 
-quotient_is : (s t : Bool) (x y : Float) → HasSign s x → HasSign t y → 0 < numerator y
+pub quotient_is : (s t : Bool) (x y : Float) → HasSign s x → HasSign t y → 0 < numerator y
     → div binary64 x y ≡ round binary64 (unlike s t) (numerator x * denominator y) (numerator y * denominator x)
 unfolding div
 quotient_is s t nan y h g p = absurd h

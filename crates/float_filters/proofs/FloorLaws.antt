@@ -12,7 +12,7 @@ use Rattle.float_filters.proofs.Comparisons.{own, denominator_pos, less_value, a
 pub half_value : IsDifference half 1 0 2
 half_value = record { finite = tt; value = refl }
 
-middle_value : IsDifference middle (3 * 2 ^ 51) 0 1
+pub middle_value : IsDifference middle (3 * 2 ^ 51) 0 1
 middle_value = record { finite = tt; value = refl }
 
 -- p - 1/2, for p of at most 2^50 in magnitude
@@ -65,7 +65,7 @@ integer_value t n h =
     record { finite = h.finite; value = omega arith }
 
 -- less 3 * 2^51 it is exact
-lowered_value : (t : Float) (n : ℕ) → IsInteger t n → IsDifference (sub binary64 t middle) n (3 * 2 ^ 51) 1
+pub lowered_value : (t : Float) (n : ℕ) → IsInteger t n → IsDifference (sub binary64 t middle) n (3 * 2 ^ 51) 1
 lowered_value t n h =
     let l = h.low in
     let g = h.high in

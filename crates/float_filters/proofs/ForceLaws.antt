@@ -434,13 +434,13 @@ decided s sr L A G q c m t L0 le ratio part margin fc bounds small cert =
 
 -- ---- the floor over the integers
 
-floor_of_above : (T n A L : ℕ) → IsDecidedAbove T n A L → IsFloor (pos (n * A)) (pos L) (pos T -ℤ pos (3 * 2 ^ 51))
+pub floor_of_above : (T n A L : ℕ) → IsDecidedAbove T n A L → IsFloor (pos (n * A)) (pos L) (pos T -ℤ pos (3 * 2 ^ 51))
 floor_of_above T n A L h =
     let w = h.floor.0 in
     let e : pos T -ℤ pos (3 * 2 ^ 51) ≡ pos w = omega (arith, ints, h.floor.1) in
     rw e (record { at_most = omega (arith, ints, h.floor.2); next_above = omega (arith, ints, h.floor.3) })
 
-floor_of_below : (T n A L : ℕ) → IsDecidedBelow T n A L → IsFloor (neg_ℤ (pos (n * A))) (pos L) (pos T -ℤ pos (3 * 2 ^ 51))
+pub floor_of_below : (T n A L : ℕ) → IsDecidedBelow T n A L → IsFloor (neg_ℤ (pos (n * A))) (pos L) (pos T -ℤ pos (3 * 2 ^ 51))
 floor_of_below T n A L h =
     let w = h.floor.0 in
     let e : pos T -ℤ pos (3 * 2 ^ 51) ≡ negsuc w = omega (arith, ints, h.floor.1) in

@@ -18,3 +18,4 @@ pub mod ForceLaws
 pub mod OppositeLaws
 pub mod MarginLaws
 pub mod FilterLaws
+pub mod QuotientLaws

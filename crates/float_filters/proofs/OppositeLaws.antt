@@ -1,5 +1,6 @@
 -- Minus an integer as a float, put together from its bits.
 use Rattle.std.proofs.Common.{◌≡◌, ℕ, zero, suc, ◌+◌, ◌-◌, ◌*◌, ◌/◌, ◌%◌, ◌^◌, ◌<◌, ◌≤◌, Bool, true, false, cond, eqb, List, [], ◌∷◌, ℤ, pos, negsuc, neg_ℤ, length, get_or, map, replicate, refl, sym, ap, ◌∙◌, subst, arith, to_z, of_z, w64, bit_and, bit_or, pow_pos, mul-pos, lt-ltb, le-ltb, eqb→eq, eq-eqb, not, SFits, T, true≢false}
+use Rattle.std.specs.Prelude.{unsigned_abs}
 use Rattle.std.specs.Simd.Lanes.{zip2, Each1}
 use Rattle.std.proofs.lemmas.Bool.{lt-leb}
 use Rattle.std.proofs.lemmas.Nat.{and_mask, or_comm, or_shifted}
@@ -95,6 +96,11 @@ pub opposite_lane : (z : ℤ) (b t : ℕ) (x y : Float) → SFits w64 z → b �
     → IsSize (neg_ℤ z) y
 opposite_lane z b t x y f p q h u v =
     subst (IsSize (neg_ℤ z)) (sym (v ∙ (λ i. sub binary64 (u i) (middle_is i)))) (opposite z t f (q ∙ ap (λ (k : ℕ). (2 ^ 51 + (2 ^ 64 - k)) % 2 ^ 64) p) h)
+
+-- an integer in a lane that is set is at most 2^51 in magnitude
+pub opposite_small : (z : ℤ) (b t : ℕ) → SFits w64 z → b ≡ of_z w64 z → t ≡ (2 ^ 51 + (2 ^ 64 - b)) % 2 ^ 64 → t < 2 ^ 52 → unsigned_abs z ≤ 2 ^ 51
+opposite_small (pos n) b t f p q h = let g : n < 2 ^ 63 = f.sfits in omega arith
+opposite_small (negsuc n) b t f p q h = let g : n < 2 ^ 63 = f.sfits in omega arith
 
 -- ---- lanes of natural numbers
 

@@ -72,7 +72,7 @@ integer_near t a b c n C many few r i = by r.0 r.1 r.2 r.3
 -- ---- what is left
 
 -- a fraction with few digits over a power of two is kept by rounding
-short_exact : (s : Bool) (n j : ℕ) → n < 2 ^ 53 → j ≤ 1074 → HasValue (round binary64 s n (2 ^ j)) s n (2 ^ j)
+pub short_exact : (s : Bool) (n j : ℕ) → n < 2 ^ 53 → j ≤ 1074 → HasValue (round binary64 s n (2 ^ j)) s n (2 ^ j)
 short_exact s n j h l =
     let i = 1074 - j in
     let total : i + j ≡ 1074 = omega arith in

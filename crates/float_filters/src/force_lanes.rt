@@ -4,7 +4,7 @@
 //! of the line. The float c = g / (length - 1/2) x is nearer to g a / L than the ratio times 1/2 and a few parts in
 //! 2^53 of L. So c decides the floor unless it is nearer to an integer.
 
-ghost use Rattle.std.specs.Prelude.{◌≡◌, ℕ, pos, ◌+◌, ◌-◌, ◌*◌, ◌%◌, ◌^◌, ◌<◌, ◌≤◌, neg_ℤ, slice_index, slice_index_or, FitsSigned, IfSome, IsSome};
+ghost use Rattle.std.specs.Prelude.{◌≡◌, ℕ, pos, ◌+◌, ◌-◌, ◌*◌, ◌%◌, ◌^◌, ◌<◌, ◌≤◌, neg_ℤ, slice_index, slice_index_or, FitsSigned, IfSome, IsSome, unsigned_abs};
 ghost use Rattle.std.specs.Int.{cast_unsigned, w64};
 ghost use Rattle.std.specs.Float.Ieee.{binary64, of_bits};
 ghost use Rattle.float_filters.specs.Floors.{HasFloats, IsFull, IsSet, lane};
@@ -66,8 +66,9 @@ fn raised(n: u64x4) -> f64x4
 
 /// Minus four integers as floats, and a mask of the lanes in which they are exact: integers between -2^51 and 2^51.
 #[inline(always)]
-fn opposites(z: [i64; 4]) -> (f64x4, Mask<i64, 4>)
+pub(crate) fn opposites(z: [i64; 4]) -> (f64x4, Mask<i64, 4>)
     ensures sizes { (k : ℕ) → k < 4 → IsSet result.1 k → IsSize (neg_ℤ (slice_index_or z k (pos 0))) (lane result.0 k) }
+    ensures small { (k : ℕ) → k < 4 → IsSet result.1 k → unsigned_abs (slice_index_or z k (pos 0)) ≤ 2 ^ 51 }
     ensures zeros { (k : ℕ) → k < 4 → slice_index_or z k (pos 0) ≡ pos 0 → IsFull result.1 k }
 {
     let n = below_bias(unsigned(z));

@@ -13,6 +13,7 @@ mod floor_lanes;
 mod force_lanes;
 mod lengths;
 mod limits;
+mod quotient_lanes;
 mod separations;
 mod vectors;
 
@@ -25,5 +26,6 @@ pub use lengths::{
     four, near_length, near_lengths, near_margin, near_products, near_ratio, near_reach,
 };
 pub use limits::{Comparison, FloatLimit, around};
+pub use quotient_lanes::{is_whole, quotient_floors};
 pub use separations::{near_separation, near_square};
 pub use vectors::{are_all_set, both};
