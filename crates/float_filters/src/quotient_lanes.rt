@@ -81,8 +81,8 @@ fn strict_floors(p: f64x4) -> (f64x4, Mask<i64, 4>)
 pub fn quotient_floors(bits: u32, a: [i64; 4], b: [i64; 4], whole: bool) -> Option<[i64; 4]>
     requires few { bits ≤ 53 }
     requires whole { IsTrue whole → (k : ℕ) → k < 4 → IsWhole bits (slice_index_or b k (pos 0)) }
-    ensures { IfSome result
-        (λ v. (k : ℕ) → k < 4 → quotient_of bits (slice_index_or a k (pos 0)) (slice_index_or b k (pos 0)) ≡ Ok (slice_index_or v k (pos 0))) }
+    ensures { IfSome result (λ v. (k : ℕ) → k < 4
+        → quotient_of bits (slice_index_or a k (pos 0)) (slice_index_or b k (pos 0)) ≡ Ok (slice_index_or v k (pos 0))) }
 {
     let (dividends, exact_a) = opposites(a);
     let (divisors, exact_b) = opposites(b);
