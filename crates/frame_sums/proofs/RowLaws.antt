@@ -1,15 +1,17 @@
 -- Interacting pairs in batches: the pairs found have the forces of all interacting pairs.
-use Rattle.std.proofs.Common.{◌≡◌, ℕ, suc, ◌+◌, ◌^◌, ◌<◌, ◌≤◌, append-nil, cond, false, min, List, [], ◌∷◌, ◌++◌, length, map, filter, take, drop, ℤ, pos, Option, Some, None, arith, refl, ap, ap₂, sym, ◌∙◌, is_some, neg_ℤ, option_map, slice_get, slice_index, All, true≢false, take-add, inl, inr}
+use Rattle.std.proofs.Common.{◌≡◌, ℕ, suc, ◌+◌, ◌^◌, ◌<◌, ◌≤◌, append-nil, cond, false, min, List, [], ◌∷◌, ◌++◌, length, map, filter, take, drop, ℤ, pos, Option, Some, None, arith, refl, ap, ap₂, sym, ◌∙◌, is_some, neg_ℤ, option_map, slice_get, slice_index, All, true≢false, take-add, inl, inr, get_or, subst}
+use Rattle.std.specs.Prelude.{◌≤ℤ◌, ◌<ℤ◌}
+use Rattle.ring_box.specs.PairForces.{force_in}
 use Rattle.std.proofs.lemmas.Bool.{cases_lt}
-use Rattle.std.proofs.lemmas.List.Elements.{All-cons}
-use Rattle.std.proofs.lemmas.Option.{get_or_from_slice_get, slice_get-map, slice_get_within}
+use Rattle.std.proofs.lemmas.List.Elements.{All-cons, All-get_or}
+use Rattle.std.proofs.lemmas.Option.{get_or_from_slice_get, same_Some, slice_get-get_or, slice_get-map, slice_get_within}
 use Rattle.std.proofs.lemmas.List.{drop-map, get_or-map, length-append, length-drop, length-map, length-take, map-append, take-map}
 use Rattle.kernel_lanes.specs.Flats.{query_at}
 use Rattle.kernel_lanes.specs.Lanes.{IsServed}
 use Rattle.kernel_lanes.specs.declared.queries.Query.{Query}
 use Rattle.ring_box.specs.Acting.{ActingPair, Reach, acting_of, force_of}
 use Rattle.ring_box.specs.Distances.{distance_at, square_of}
-use Rattle.ring_box.specs.FoundPairs.{FoundPairs, with_pair}
+use Rattle.ring_box.specs.FoundPairs.{AreForcesOf, AreSlopesSmall, FoundPairs, with_pair}
 use Rattle.ring_box.specs.declared.vectors.Place3.{Place3}
 use Rattle.ring_box.specs.declared.vectors.Vector.{Vector}
 use Rattle.ring_box.proofs.ActingLemmas.{halves, taken}
@@ -24,7 +26,8 @@ use Rattle.integrator.specs.Frames.{Frame}
 use Rattle.integrator.specs.declared.systems.System.{System}
 use Rattle.frame_sums.proofs.ActingLaws.{few_act}
 use Rattle.frame_sums.specs.Rounds.{add_of, pair_add}
-use Rattle.frame_sums.specs.Rows.{AreNextFound, IsFound, IsSlope, add_found, query_of, found_in, found_of, reach_of}
+use Rattle.frame_sums.specs.Rows.{AreFoundForces, AreNextFound, AreSlopes, IsFound, IsSlope, add_found, minus_slope_for, query_of, found_in, found_of, reach_of}
+use Rattle.ring_box.specs.declared.pair_forces.PairForces.{PairForces}
 use Rattle.potential.proofs.PotentialLaws.{minus_is}
 use Rattle.potential.specs.LaneKernels.{IsCodeValue}
 use Rattle.potential.specs.Potentials.{minus, potential_of, slope_at}
@@ -225,6 +228,62 @@ module _ {A : Type 0} (s : System (SlopeKernel A) A) where
   -- the query for one of the pairs
   pub asked_at : (found : List FoundPair) (l : ℕ) (f : FoundPair) → slice_get found l ≡ Some f → query_at (map (query_of s) found) l ≡ query_of s f
   asked_at found l f at = get_or-map (query_of s) found l f (record { a = 0; b = 0; r = pos 0 }) (slice_get_within found l f at) ∙ ap (query_of s) (get_or_from_slice_get found l f f at)
+
+  -- values of the code for the queries are derivatives
+  pub slopes_asked : (found : List FoundPair) (queries : List Query) (slopes : List ℤ) → queries ≡ map (query_of s) found → All (IsServed s.kernel.verified) queries → s.kernel.verified.bound < 2 ^ 63
+      → ((l : ℕ) → l < length queries → IsCodeValue s.kernel.verified (query_at queries l) (get_or slopes l (pos 0))) → AreSlopes s (map (query_of s) found) slopes
+  slopes_asked found queries slopes asked served bound are =
+      subst (λ (asked : List Query). AreSlopes s asked slopes) asked (λ l lt. slope_is (query_at queries l) (get_or slopes l (pos 0)) (served l _ lt) bound (are l lt))
+
+  -- derivatives for the queries are small
+  pub slopes_small : (found : List FoundPair) (slopes : List ℤ) → AreSlopes s (map (query_of s) found) slopes → AreSlopesSmall (length found) slopes
+  slopes_small found slopes are l lt = (are l (omega (arith, lt, length-map found (query_of s)))).fits
+
+  -- forces from the derivatives for the queries are the forces of the pairs
+  pub forces_found : (found : List FoundPair) (slopes : List ℤ) (forces : PairForces) → AreSlopes s (map (query_of s) found) slopes → AreForcesOf found slopes forces → AreFoundForces s found forces
+  forces_found found slopes forces are forced l f at =
+      let inside : l < length (map (query_of s) found) = omega (arith, slice_get_within found l f at, length-map found (query_of s)) in
+      forced l f at ∙ ap (force_of f.acting) ((are l inside).value ∙ ap (minus_slope_for s) (asked_at found l f at))
+
+  -- the pair that has these atoms
+  pub pair_at : (found : List FoundPair) (l : ℕ) (atoms : ℕ × ℕ) → slice_get (map (λ f. (f.low, f.high)) found) l ≡ Some atoms → (f : FoundPair) × (slice_get found l ≡ Some f)
+  pair_at found l atoms at =
+      let none : FoundPair = record { low = 0; high = 0; acting = record { x = pos 0; y = pos 0; z = pos 0; length = 1; distance = pos 0 } } in
+      let pair : FoundPair → ℕ × ℕ = λ f. (f.low, f.high) in
+      let lt : l < length found = omega (arith, slice_get_within (map pair found) l atoms at, length-map found pair) in
+      (get_or found l none, slice_get-get_or found l none lt)
+
+  same_atoms : (found : List FoundPair) (l : ℕ) (f : FoundPair) (atoms : ℕ × ℕ) → slice_get found l ≡ Some f → slice_get (map (λ f. (f.low, f.high)) found) l ≡ Some atoms → (f.low, f.high) ≡ atoms
+  same_atoms found l f atoms here at =
+      let pair : FoundPair → ℕ × ℕ = λ f. (f.low, f.high) in
+      same_Some (f.low, f.high) atoms (sym (slice_get-map pair found l ∙ ap (option_map pair) here) ∙ at)
+
+  same_distance : (found : List FoundPair) (l : ℕ) (f : FoundPair) (r : ℤ) → slice_get found l ≡ Some f → slice_get (map (λ f. f.acting.distance) found) l ≡ Some r → f.acting.distance ≡ r
+  same_distance found l f r here at =
+      let distance : FoundPair → ℤ = λ f. f.acting.distance in
+      same_Some f.acting.distance r (sym (slice_get-map distance found l ∙ ap (option_map distance) here) ∙ at)
+
+  -- a pair of a batch has two of n atoms, and a distance within reach
+  pub found_here : (n : ℕ) (found : List FoundPair) (l : ℕ) (atoms : ℕ × ℕ) (r : ℤ) → All (IsFound s n) found → slice_get (map (λ f. (f.low, f.high)) found) l ≡ Some atoms → slice_get (map (λ f. f.acting.distance) found) l ≡ Some r
+      → (f : FoundPair) × (atoms.0 < atoms.1) × (atoms.1 < n) × (s.core ≤ℤ r) × (r <ℤ s.cutoff) × (slice_get found l ≡ Some f)
+  found_here n found l atoms r are at far =
+      let here = pair_at found l atoms at in
+      let f = here.0 in
+      let is : IsFound s n f = subst (IsFound s n) (get_or_from_slice_get found l f f here.1) (All-get_or (IsFound s n) found l f (slice_get_within found l f here.1) are) in
+      let e = same_atoms found l f atoms here.1 at in
+      let d = same_distance found l f r here.1 far in
+      (f, rw (← e) is.ordered, rw (← e) is.inside, rw (← d) is.core, rw (← d) is.cutoff, here.1)
+
+  -- the query by the atoms and the distance is the query for the pair
+  pub asked_by : (found : List FoundPair) (l : ℕ) (f : FoundPair) (atoms : ℕ × ℕ) (r : ℤ) → slice_get found l ≡ Some f → slice_get (map (λ f. (f.low, f.high)) found) l ≡ Some atoms → slice_get (map (λ f. f.acting.distance) found) l ≡ Some r
+      → record { a = slice_index s.types.items atoms.0; b = slice_index s.types.items atoms.1; r = r } ≡ query_of s f
+  asked_by found l f atoms r here at far = rw (← same_atoms found l f atoms here at, ← same_distance found l f r here far) refl
+
+  -- a force by the atoms is the force of the pair
+  pub added_by : (found : List FoundPair) (l : ℕ) (f : FoundPair) (atoms : ℕ × ℕ) (forces : PairForces) (force : Vector ℤ) (add : PairAdd) → slice_get found l ≡ Some f → slice_get (map (λ f. (f.low, f.high)) found) l ≡ Some atoms
+      → AreFoundForces s found forces → force ≡ force_in forces l → add ≡ pair_add atoms.0 atoms.1 force → add ≡ add_found s f
+  added_by found l f atoms forces force add here at are is made =
+      made ∙ (ap (pair_add atoms.0 atoms.1) (is ∙ are l f here) ∙ ap (λ (p : ℕ × ℕ). pair_add p.0 p.1 (force_of f.acting (minus_slope_for s (query_of s f)))) (sym (same_atoms found l f atoms here at)))
 
   -- a pair found gets its force from the derivative for its query
   pub slope_adds : (f : FoundPair) (query : Query) (v minus : ℤ) (force : Vector ℤ) (add : PairAdd) → IsSlope s query v → query ≡ query_of s f → minus ≡ neg_ℤ v → force ≡ force_of f.acting minus

@@ -1,9 +1,11 @@
 -- Interacting pairs in batches: first the geometry of each pair, then the derivative of its energy, then its force.
-use Rattle.std.specs.Prelude.{ℕ, ◌<◌, ◌≤◌, ℤ, ◌≤ℤ◌, ◌<ℤ◌, ◌≡◌, ◌^◌, List, ◌++◌, length, map, neg_ℤ, pos, take, unsigned_abs, Option, slice_index, slice_index_or, flat_map}
+use Rattle.std.specs.Prelude.{ℕ, ◌<◌, ◌≤◌, ℤ, ◌≤ℤ◌, ◌<ℤ◌, ◌≡◌, ◌^◌, List, ◌++◌, length, map, neg_ℤ, pos, take, unsigned_abs, Option, Some, slice_get, slice_index, slice_index_or, flat_map}
 use Rattle.kernel_lanes.specs.declared.queries.Query.{Query}
 use Rattle.kernel_lanes.specs.Flats.{query_at}
 use Rattle.ring_box.specs.Acting.{Reach, force_of}
 use Rattle.ring_box.specs.FoundPairs.{found_pair_of}
+use Rattle.ring_box.specs.PairForces.{force_in}
+use Rattle.ring_box.specs.declared.pair_forces.PairForces.{PairForces}
 use Rattle.rounds.specs.Tiles.{acting}
 use Rattle.rounds.specs.declared.work.PairAdd.{PairAdd}
 use Rattle.ring_box.specs.Places.{places_of}
@@ -56,6 +58,11 @@ module _ {A : Type 0} (s : System (SlopeKernel A) A) where
   -- the force of a pair with this geometry
   abbrev pub add_found : FoundPair → PairAdd
   add_found f = pair_add f.low f.high (force_of f.acting (minus_slope_for (query_of f)))
+
+  -- the lanes of pairs hold their forces
+  abbrev pub AreFoundForces : List FoundPair → PairForces → Type 0
+  AreFoundForces found forces =
+      (l : ℕ) (f : FoundPair) → slice_get found l ≡ Some f → force_in forces l ≡ force_of f.acting (minus_slope_for (query_of f))
 
   -- the interacting pairs of a list
   abbrev pub found_in : Frame → List (ℕ × ℕ) → List FoundPair

@@ -9,18 +9,18 @@ use cell_tiles::NearPairs;
 use fixed::Fx;
 use kernel_lanes::Query;
 use potential::LaneRows;
-use ring_box::{FoundPair, FoundPairs, Vector};
+use ring_box::{FoundPairs, PairForces, Vector};
 use rounds::PairAdd;
 use std::alloc::Allocator;
 
 /// The force of a pair as the round adds it.
 #[inline(always)]
-pub(crate) fn added(pair: &FoundPair, force: Vector<i64>) -> PairAdd
-    ensures { result ≡ pair_add pair.now.low pair.now.high force }
+pub(crate) fn added(low: u32, high: u32, force: Vector<i64>) -> PairAdd
+    ensures { result ≡ pair_add low high force }
 {
     PairAdd {
-        low: pair.low,
-        high: pair.high,
+        low,
+        high,
         force: [force.x, force.y, force.z],
     }
 }
@@ -43,6 +43,7 @@ pub struct Scratch<A: Allocator> {
     pub found: FoundPairs,
     pub queries: [Query; 128],
     pub slopes: [Fx; 128],
+    pub forces: PairForces,
     pub rows: LaneRows<A>,
 }
 
@@ -59,6 +60,7 @@ impl<A: Allocator> Scratch<A> {
                 r: Fx::from_raw(0),
             }; 128],
             slopes: [Fx::from_raw(0); 128],
+            forces: PairForces::new(),
             rows,
         }
     }

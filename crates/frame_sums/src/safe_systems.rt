@@ -17,7 +17,7 @@ use kernel_lanes::Query;
 use kernel_machine::Stack;
 use pair_lists::PairLists;
 use potential::SlopeKernel;
-use ring_box::{FoundPair, FoundPairs, Place3, Reach, RingBox, Vector};
+use ring_box::{FoundPairs, PairForces, Place3, Reach, RingBox, Vector};
 use rounds::{PairAdd, PairAdds};
 use std::alloc::{AllocError, Allocator};
 
@@ -49,13 +49,13 @@ fn force_in(sums: &[i64], atom: usize) -> Vector<i128>
 }
 
 impl<A: Allocator + Copy> SafeSystem<A> {
-    ghost use Rattle.std.specs.Prelude.{◌≡◌, ◌*◌, ◌<◌, ◌≤◌, ◌^◌, [], length, map, take, IfErr, IfOk, IsTrue, OnOk};
+    ghost use Rattle.std.specs.Prelude.{◌≡◌, ◌*◌, ◌<◌, ◌≤◌, ◌^◌, ◌≤ℤ◌, ◌<ℤ◌, [], length, map, take, slice_index, IfErr, IfOk, IsTrue, OnOk};
     ghost use Rattle.cell_tiles.specs.Near.{IsPairOf};
     ghost use Rattle.integrator.specs.Frames.{moved_frame};
     ghost use Rattle.kernel_lanes.specs.Lanes.{IsServed};
     ghost use Rattle.ring_box.specs.Acting.{limit_of};
     ghost use Rattle.frame_sums.specs.Rounds.{add_of, forces_from};
-    ghost use Rattle.frame_sums.specs.Rows.{AreSlopes, IsFound, add_found, query_of, found_in, reach_of};
+    ghost use Rattle.frame_sums.specs.Rows.{AreFoundForces, IsFound, add_found, query_of, found_in, reach_of};
     ghost use Rattle.frame_sums.specs.SafeSystems.{HasAtoms, IsSafeWith, safe_dynamics};
 
     /// A system whose code is accepted, with no pairs yet. `AllocError`: memory ran out.
@@ -174,20 +174,25 @@ impl<A: Allocator + Copy> SafeSystem<A> {
         tried
     }
 
-    /// The query for a pair: its two types and its distance. If all atoms are `alike`, no atom's type is looked up.
-    fn query(&self, alike: bool, pair: &FoundPair) -> Query
+    /// The query for a pair of atoms at a distance: their two types and the distance. If all atoms are `alike`, no atom's
+    /// type is looked up.
+    #[inline(always)]
+    fn query(&self, alike: bool, low: u32, high: u32, r: Fx) -> Query
         requires alike { IsTrue alike → length self.now.system.kernel.verified.table.rows ≡ 1 }
-        requires found { IsFound self.now.system (length self.now.system.types.items) pair.now }
-        ensures value { result ≡ query_of self.now.system pair.now }
+        requires ordered { low < high }
+        requires inside { high < length self.now.system.types.items }
+        requires core { self.now.system.core ≤ℤ r }
+        requires cutoff { r <ℤ self.now.system.cutoff }
+        ensures value { result
+            ≡ record { a = slice_index self.now.system.types.items low; b = slice_index self.now.system.types.items high; r = r } }
         ensures served { IsServed self.now.system.kernel.verified result }
     {
-        let r = pair.acting.distance();
         if alike {
             return Query { a: 0, b: 0, r };
         }
         Query {
-            a: self.system.types[pair.low as usize],
-            b: self.system.types[pair.high as usize],
+            a: self.system.types[low as usize],
+            b: self.system.types[high as usize],
             r,
         }
     }
@@ -201,7 +206,8 @@ impl<A: Allocator + Copy> SafeSystem<A> {
     {
         let alike = self.system.kernel.verified.types() == 1;
         for l in 0..found.len() {
-            queries[l] = self.query(alike, &found.found(l));
+            let (low, high) = found.atoms(l);
+            queries[l] = self.query(alike, low, high, found.distance(l));
         }
     }
 
@@ -216,28 +222,24 @@ impl<A: Allocator + Copy> SafeSystem<A> {
         let y = frame[high as usize];
         match self.system.ring.acting(&self.reach(), x, y) {
             Some(acting) => {
-                let pair = FoundPair { low, high, acting };
-                let query = self.query(false, &pair);
+                let query = self.query(false, low, high, acting.distance());
                 let slope = self.system.kernel.verified.value(&mut Stack::new(), query);
-                Some(added(&pair, pair.acting.force(opposite(slope))))
+                Some(added(low, high, acting.force(opposite(slope))))
             }
             None => None,
         }
     }
 
-    /// The forces of the pairs found, from their derivatives.
-    fn add_all(&self, found: &FoundPairs, slopes: &[Fx], adds: &mut PairAdds)
-        requires measured { found.now.measured ≡ length found.now.pairs }
-        requires room { length found.now.pairs ≤ length slopes.now }
-        requires slopes { AreSlopes self.now.system (map (query_of self.now.system) found.now.pairs) slopes.now }
+    /// The forces of the pairs found as the round adds them.
+    fn add_all(&self, found: &FoundPairs, forces: &PairForces, adds: &mut PairAdds)
+        requires few { length found.now.pairs ≤ 128 }
+        requires forces { AreFoundForces self.now.system found.now.pairs forces.now }
         ensures { adds.new.items ≡ map (add_found self.now.system) found.now.pairs }
     {
         adds.clear();
         for l in 0..found.len() {
-            let pair = found.found(l);
-            let estimate = found.force_estimate(l);
-            let force = pair.acting.force_near(opposite(slopes[l]), estimate);
-            adds.push(added(&pair, force));
+            let (low, high) = found.atoms(l);
+            adds.push(added(low, high, forces.force(l)));
         }
     }
 
@@ -253,6 +255,7 @@ impl<A: Allocator + Copy> SafeSystem<A> {
             found,
             queries,
             slopes,
+            forces,
             rows,
             ..
         } = scratch;
@@ -265,8 +268,8 @@ impl<A: Allocator + Copy> SafeSystem<A> {
             .kernel
             .verified
             .values(&queries[..found.len()], rows, slopes);
-        found.estimate_ratios(slopes);
-        self.add_all(found, slopes, adds);
+        found.forces(slopes, forces);
+        self.add_all(found, forces, adds);
     }
 
     /// Replaces the frame `before` by the frame after `before` and `middle`; `sums` are the forces on the atoms at
