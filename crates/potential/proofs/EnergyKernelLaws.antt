@@ -1,5 +1,5 @@
 -- The code of a job's energy itself, and why there is none.
-use Rattle.std.proofs.Common.{◌≡◌, ℕ, ◌^◌, ◌<◌, ◌≤◌, List, length, ℤ, Some, Ok, arith, true, ◌≤ℤ◌, ◌<ℤ◌}
+use Rattle.std.proofs.Common.{◌≡◌, ◌∙◌, ℕ, ◌^◌, ◌<◌, ◌≤◌, List, length, ℤ, Some, Ok, arith, subst, sym, true, ◌≤ℤ◌, ◌<ℤ◌}
 use Rattle.fixed.specs.Fractions.{bits_of}
 use Rattle.energy_program.specs.Faults as energies
 use Rattle.energy_program.specs.Programs.{program_tree, trees_of}
@@ -20,11 +20,12 @@ use Rattle.kernel_compiler.specs.Code.{compiled}
 use Rattle.kernel_compiler.specs.Compiled.{Computes}
 use Rattle.energy_program.specs.Tree.{Tree}
 use Rattle.verifier.specs.Kernels.{IsKernel, Kernel}
-use Rattle.potential.proofs.EnergyLaws.{enough_of_job}
+use Rattle.potential.proofs.EnergyLaws.{energy_code_by, enough_of_job}
 use Rattle.potential.proofs.PotentialLaws.{is_small_value}
 use Rattle.potential.specs.Magnitudes.{is_small}
-use Rattle.potential.specs.Energies.{job_program}
+use Rattle.potential.specs.Energies.{energy_code_of, job_program}
 use Rattle.potential.specs.EnergyKernels.{GivesEnergy, HasNoEnergyKernel, IsEnergyKernel}
+use Rattle.potential.specs.Progress.{IsPassedBefore}
 use Rattle.potential.specs.Tables.{table_of}
 use Rattle.potential.specs.Verdicts.{HasNoKernel, IsAccepted}
 use Rattle.potential.specs.declared.faults.EnergyFault.{EnergyFault}
@@ -75,3 +76,10 @@ not_accepted j p code (Refused (fault.Energy f)) same c h = absurd h
 not_accepted j p code (Refused (fault.Kernel f types)) same c h =
     record { program = trees_of p; its = same; it = record { code = code; is = c; why = h } }
 not_accepted j p code Memory same c h = tt
+
+-- the slices that are reported before a failure of the energy's code
+pub passed_before : {A : Type 0} (j : JobValue) (p : Program A) (code : List Instr) (n : ℕ) (failure : Failure (EnergyFault A))
+    → job_program j ≡ Ok (trees_of p) → compiled (bits_of j.frac) (trees_of p).0 (trees_of p).1 ≡ Ok code
+    → IsPassedBefore j (Ok code) failure n → IsPassedBefore j (energy_code_of j) failure n
+passed_before j p code n failure same c h =
+    subst (λ made. IsPassedBefore j made failure n) (sym (energy_code_by j (trees_of p) same ∙ c)) h

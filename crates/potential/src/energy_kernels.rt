@@ -4,7 +4,7 @@ ghost use Rattle.std.specs.Prelude.{◌≡◌, ℕ, length, IfErr, IfOk, Ok, OnO
 ghost use Rattle.energy_program.specs.Programs.{program_tree, trees_of};
 ghost use Rattle.fallible.specs.Failures.{IfRefused};
 ghost use Rattle.job.specs.Views.{job_value};
-ghost use Rattle.potential.specs.Energies.{job_program};
+ghost use Rattle.potential.specs.Energies.{energy_code_of, job_program};
 ghost use Rattle.potential.specs.EnergyKernels.{GivesEnergy, HasEnergies, HasNoEnergyKernel, IsEnergyKernel};
 ghost use Rattle.potential.specs.Progress.{IsPassedBefore, slices_of};
 ghost use Rattle.potential.specs.Verdicts.{IsUnder};
@@ -39,7 +39,7 @@ pub fn energy_kernel<A: Allocator + Copy, W: Progress>(
     ensures has { IfOk result (HasEnergies (program_tree program.now)) }
     ensures refused { IfErr result (λ failure. IfRefused failure (HasNoEnergyKernel (job_value job.now))) }
     ensures passed { OnOk result (W.passed watch.old watch.new (slices_of (job_value job.now))) }
-    ensures stopped { IfErr result (λ failure. (n : ℕ) × IsPassedBefore (slices_of (job_value job.now)) failure n
+    ensures stopped { IfErr result (λ failure. (n : ℕ) × IsPassedBefore (job_value job.now) (energy_code_of (job_value job.now)) failure n
         × W.passed watch.old watch.new n) }
 {
     match compile(alloc, job.frac, program) {

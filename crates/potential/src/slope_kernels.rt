@@ -35,7 +35,7 @@ pub struct SlopeKernel<A: Allocator> {
 }
 
 impl<A: Allocator + Copy> SlopeKernel<A> {
-    ghost use Rattle.std.specs.Prelude.{IfErr, IfOk, OnOk};
+    ghost use Rattle.std.specs.Prelude.{IfErr, IfOk, Ok, OnOk};
     ghost use Rattle.fallible.specs.Failures.{IfRefused};
     ghost use Rattle.job.specs.Views.{job_value};
     ghost use Rattle.potential.specs.Energies.{IsCompiled};
@@ -58,7 +58,7 @@ impl<A: Allocator + Copy> SlopeKernel<A> {
         ensures accepted { IfOk result (λ k. IsAccepted (job_value job.now) parts.code k.verified) }
         ensures refused { IfErr result (λ failure. IfRefused failure (HasNoKernel (job_value job.now) parts.code)) }
         ensures passed { OnOk result (W.passed watch.old watch.new (slices_of (job_value job.now))) }
-        ensures stopped { IfErr result (λ failure. (n : ℕ) × IsPassedBefore (slices_of (job_value job.now)) failure n
+        ensures stopped { IfErr result (λ failure. (n : ℕ) × IsPassedBefore (job_value job.now) (Ok parts.code) failure n
             × W.passed watch.old watch.new n) }
     {
         let SlopeParts {

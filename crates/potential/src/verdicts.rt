@@ -1,9 +1,10 @@
 //! Code that the verifier accepts under a job.
 
-ghost use Rattle.std.specs.Prelude.{◌≡◌, ◌<◌, ℕ, length, option_map, IfOk, IfErr, OnOk};
+ghost use Rattle.std.specs.Prelude.{◌≡◌, ◌<◌, ℕ, length, option_map, IfOk, IfErr, Ok, OnOk};
 ghost use Rattle.fallible.specs.Failures.{IfRefused};
 ghost use Rattle.line_text.specs.Names.{name_text};
 ghost use Rattle.job.specs.Views.{job_value};
+ghost use Rattle.potential.specs.Energies.{slope_code_of};
 ghost use Rattle.potential.specs.Progress.{IsPassedBefore, slices_of};
 ghost use Rattle.potential.specs.Tables.{name_of_type};
 ghost use Rattle.potential.specs.Verdicts.{HasNoKernel, HasNoSlopeKernel, IsAccepted, IsSlopeKernel, SpeaksOf, type_names};
@@ -55,7 +56,7 @@ pub fn verdict<A: Allocator + Copy, W: Progress>(
     ensures accepted { IfOk result (IsAccepted (job_value job.now) code) }
     ensures refused { IfErr result (λ failure. IfRefused failure (HasNoKernel (job_value job.now) code)) }
     ensures passed { OnOk result (W.passed watch.old watch.new (slices_of (job_value job.now))) }
-    ensures stopped { IfErr result (λ failure. (n : ℕ) × IsPassedBefore (slices_of (job_value job.now)) failure n
+    ensures stopped { IfErr result (λ failure. (n : ℕ) × IsPassedBefore (job_value job.now) (Ok code) failure n
         × W.passed watch.old watch.new n) }
 {
     match type_table(alloc, job) {
@@ -88,7 +89,7 @@ pub fn verified_slope<A: Allocator + Copy, W: Progress>(
     ensures kernel { IfOk result (IsSlopeKernel (job_value job.now)) }
     ensures refused { IfErr result (λ failure. IfRefused failure (HasNoSlopeKernel (job_value job.now))) }
     ensures passed { OnOk result (W.passed watch.old watch.new (slices_of (job_value job.now))) }
-    ensures stopped { IfErr result (λ failure. (n : ℕ) × IsPassedBefore (slices_of (job_value job.now)) failure n
+    ensures stopped { IfErr result (λ failure. (n : ℕ) × IsPassedBefore (job_value job.now) (slope_code_of (job_value job.now)) failure n
         × W.passed watch.old watch.new n) }
 {
     match slope_code(alloc, job) {

@@ -3,7 +3,7 @@ use Rattle.energy_program.specs.Programs.{program_tree}
 use Rattle.job.specs.Views.{job_value}
 use Rattle.potential.specs.EnergyKernels.{GivesEnergy, HasEnergies, IsEnergyKernel}
 use Rattle.potential.specs.Progress.{slices_of}
-use Rattle.potential.proofs.EnergyKernelLaws.{accepted_gives, energy_kernel, not_accepted, small_energies, too_large}
+use Rattle.potential.proofs.EnergyKernelLaws.{accepted_gives, energy_kernel, not_accepted, passed_before, small_energies, too_large}
 use Rattle.potential.proofs.ReportLaws.{none_passed}
 use Rattle.potential.proofs.energy_kernels.energy_kernel.Goals as goal
 
@@ -37,7 +37,16 @@ returns-in-Ok-new-clause-has g c =
 pub returns-in-Err-clause-stopped : goal.returns-in-Err-clause-stopped
 returns-in-Err-clause-stopped g c =
     rw c.of_energy.ensures
-    (0, none_passed (slices_of (job_value c.args.job.now)) c.in-Err.failure, g.met.W.Progress.passed_none c.args.watch.now)
+    (0, none_passed (job_value c.args.job.now) _ c.in-Err.failure, g.met.W.Progress.passed_none c.args.watch.now)
+
+pub returns-in-Err-verdict-clause-stopped : goal.returns-in-Err-verdict-clause-stopped
+returns-in-Err-verdict-clause-stopped g c =
+    let j = job_value c.args.job.now in
+    let stopped = c.in-Err-verdict.ensures.stopped in (
+      stopped.0,
+      passed_before j c.args.program.now c.in-Ok.code stopped.0 c.in-Err-verdict.failure c.requires.program c.in-Ok.ensures.exact stopped.1,
+      stopped.2,
+    )
 
 pub returns-in-Err-new-clause-stopped : goal.returns-in-Err-new-clause-stopped
 returns-in-Err-new-clause-stopped g c = (slices_of (job_value c.args.job.now), omega arith, c.in-Ok-verdict.ensures.passed)

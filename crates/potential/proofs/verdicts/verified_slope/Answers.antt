@@ -1,7 +1,8 @@
+use Rattle.std.proofs.Common.{Ok}
 use Rattle.std.proofs.lemmas.Result.{IfErr-weaker, IfOk-weaker}
 use Rattle.job.specs.Views.{job_value}
-use Rattle.potential.specs.Progress.{slices_of}
-use Rattle.potential.proofs.ReportLaws.{none_passed}
+use Rattle.potential.specs.Energies.{slope_code_of}
+use Rattle.potential.proofs.ReportLaws.{none_passed, passed_of}
 use Rattle.potential.proofs.VerdictLaws.{slope_kernel, slope_refused, slope_without_code}
 use Rattle.potential.proofs.verdicts.verified_slope.Goals as goal
 
@@ -20,4 +21,9 @@ returns-in-Ok-clause-kernel g c =
 pub returns-in-Err-clause-stopped : goal.returns-in-Err-clause-stopped
 returns-in-Err-clause-stopped g c =
     rw c.of_energy.ensures
-    (0, none_passed (slices_of (job_value c.args.job.now)) c.in-Err.failure, g.met.W.Progress.passed_none c.args.watch.now)
+    (0, none_passed (job_value c.args.job.now) _ c.in-Err.failure, g.met.W.Progress.passed_none c.args.watch.now)
+
+pub returns-in-Ok-clause-stopped : goal.returns-in-Ok-clause-stopped
+returns-in-Ok-clause-stopped g c =
+    let j = job_value c.args.job.now in
+    passed_of j (Ok c.in-Ok.code) (slope_code_of j) c.verdict.result _ c.in-Ok.ensures.exact c.verdict.ensures.stopped
