@@ -7,6 +7,7 @@ use Rattle.fallible.specs.declared.failure.Failure.{Failure}
 use Rattle.fallible.specs.declared.failure.Failure.TheVariants.{Memory, Refused}
 use Rattle.job.specs.Values.{JobValue}
 use Rattle.potential.proofs.ReportLaws.{few}
+use Rattle.potential.specs.Energies.{energy_code_of, slope_code_of}
 use Rattle.potential.specs.EnergyKernels.{HasNoEnergyKernel}
 use Rattle.potential.specs.Progress.{IsPassedBefore, slices_of}
 use Rattle.potential.specs.Verdicts.{HasNoSlopeKernel, IsSlopeKernel}
@@ -28,13 +29,13 @@ whatever_value (Err e) P h = tt
 
 -- a failure of the slope
 pub slope_stopped : {A : Type 0} (j : JobValue) (n : ℕ) (failure : Failure (EnergyFault A)) → IfRefused failure (HasNoSlopeKernel j)
-    → IsPassedBefore (slices_of j) failure n → IsStoppedAfter j (2 * slices_of j) failure n
+    → IsPassedBefore j (slope_code_of j) failure n → IsStoppedAfter j (2 * slices_of j) failure n
 slope_stopped j n (Refused f) why h = inl (why, h)
 slope_stopped j n Memory why h = omega (arith, h)
 
 -- a failure of the energy itself, after all slices of the slope
 pub energy_stopped : {A : Type 0} (j : JobValue) (k : Kernel) (n : ℕ) (failure : Failure (EnergyFault A)) → IsSlopeKernel j k
-    → IfRefused failure (HasNoEnergyKernel j) → IsPassedBefore (slices_of j) failure n
+    → IfRefused failure (HasNoEnergyKernel j) → IsPassedBefore j (energy_code_of j) failure n
     → IsStoppedAfter j (2 * slices_of j) failure (slices_of j + n)
 energy_stopped j k n (Refused f) is why h = inr (record { slope = k; is_slope = is; why = why; more = n; after = h; count = refl })
 energy_stopped j k n Memory is why h = omega (arith, h)
@@ -48,8 +49,8 @@ before_rows j most n Memory le h = omega (arith, le, h)
 -- at most all parts are reported before a failure
 pub stopped_few : {A : Type 0} (j : JobValue) (plan : CurvePlan) (failure : Failure (EnergyFault A)) (n : ℕ)
     → IsStoppedAfter j (curve_parts j plan) failure n → n ≤ curve_parts j plan
-stopped_few j plan (Refused f) n (inl h) = omega (arith, few (slices_of j) n (Refused f) h.1)
-stopped_few j plan (Refused f) n (inr h) = let count = h.count in omega (arith, few (slices_of j) h.more (Refused f) h.after, count)
+stopped_few j plan (Refused f) n (inl h) = omega (arith, few j (slope_code_of j) n (Refused f) h.1)
+stopped_few j plan (Refused f) n (inr h) = let count = h.count in omega (arith, few j (energy_code_of j) h.more (Refused f) h.after, count)
 stopped_few j plan Memory n h = h
 
 -- The rows of some tables, and some rows of the next two, are at most those of all tables.

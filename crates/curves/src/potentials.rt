@@ -8,7 +8,7 @@ ghost use Rattle.energy_program.specs.Value.{value_of};
 ghost use Rattle.job.specs.Views.{job_value};
 ghost use Rattle.kernel_code.specs.Tables.{inputs_of};
 ghost use Rattle.kernel_lanes.specs.Lanes.{IsServed};
-ghost use Rattle.potential.specs.Energies.{job_program};
+ghost use Rattle.potential.specs.Energies.{energy_code_of, job_program, slope_code_of};
 ghost use Rattle.potential.specs.EnergyKernels.{HasNoEnergyKernel};
 ghost use Rattle.potential.specs.Progress.{IsPassedBefore, slices_of};
 ghost use Rattle.potential.specs.Tables.{table_of};
@@ -50,7 +50,7 @@ fn slope_kernel<A: Allocator + Copy, W: Progress>(
     ensures kernel { IfOk result (λ k. IsSlopeKernel (job_value job.now) k.verified) }
     ensures refused { IfErr result (λ failure. IfRefused failure (HasNoSlopeKernel (job_value job.now))) }
     ensures passed { OnOk result (W.passed watch.old watch.new (slices_of (job_value job.now))) }
-    ensures stopped { IfErr result (λ failure. (n : ℕ) × IsPassedBefore (slices_of (job_value job.now)) failure n
+    ensures stopped { IfErr result (λ failure. (n : ℕ) × IsPassedBefore (job_value job.now) (slope_code_of (job_value job.now)) failure n
         × W.passed watch.old watch.new n) }
 {
     match job_slope(alloc, job) {
@@ -77,7 +77,8 @@ impl<A: Allocator + Copy> Potential<A> {
         ensures is { IfOk result (IsPotentialOf (job_value job.now)) }
         ensures refused { IfErr result (λ failure. IfRefused failure (HasNoEnergyKernel (job_value job.now))) }
         ensures passed { OnOk result (W.passed watch.old watch.new (slices_of (job_value job.now))) }
-        ensures stopped { IfErr result (λ failure. (n : ℕ) × IsPassedBefore (slices_of (job_value job.now)) failure n
+        ensures stopped { IfErr result (λ failure. (n : ℕ)
+            × IsPassedBefore (job_value job.now) (energy_code_of (job_value job.now)) failure n
             × W.passed watch.old watch.new n) }
     {
         let energy = energy_kernel(alloc, job, &slope.energy, watch)?;
