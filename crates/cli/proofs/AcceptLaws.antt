@@ -1,5 +1,6 @@
 -- If this page gives an output for the contents of a command's files, none of its reasons to reject them holds.
 use Rattle.std.proofs.Common.{◌≡◌, ◌⊎◌, ◌∙◌, ℕ, List, true, false, Some, None, Ok, Err, ap, inl, inr, subst, sym, Result, is_none, Option}
+use Rattle.command_line.specs.Commands.{CurveView}
 use Rattle.command_line.specs.declared.commands.Quantity.TheVariants as quantity
 use Rattle.energy_program.specs.Faults.{Refusal}
 use Rattle.integrator.specs.Starts.{energy_refused}
@@ -24,9 +25,9 @@ use Rattle.engine.specs.Engines.{AreSafe, CounterFits, CounterLeaves}
 use Rattle.engine.specs.declared.faults.InputFault.TheVariants as input
 use Rattle.engine.proofs.SpecifiedTexts.{one_job, one_state}
 use Rattle.engine.proofs.OneAnswer.{has_engine}
-use Rattle.cli.specs.Actions.{CodeText, CurveText, Explanation, FrameText, ListingVerdict, QuantityText, SlopeVerdict, StartText, Text}
-use Rattle.cli.specs.Command.{GivesText, HasCode}
-use Rattle.cli.specs.CommandFailure.{DoNotFit, HasNoEnergyCode, HasNoSlope, HasNoSlopeFor, HaveNoEngine, LackCode, LackSlope, LacksData, LacksTextCode}
+use Rattle.cli.specs.Actions.{CodeText, Explanation, FrameText, ListingVerdict, OfJob, QuantityText, SlopeVerdict, StartText, TablesOfJob, Text}
+use Rattle.cli.specs.Command.{GivesText, HasCode, HasOutput}
+use Rattle.cli.specs.CommandFailure.{DoNotFit, HasNoEnergyCode, HasNoSlope, HasNoSlopeFor, HaveNoEngine, IsNoJob, LackCode, LackSlope, LacksData, LacksTextCode, RejectsCode}
 use Rattle.cli.specs.Conversions.{listed_code_of}
 use Rattle.cli.specs.CurveTexts.{HasPair, LacksPair, Names}
 
@@ -126,9 +127,6 @@ text_given (SlopeVerdict job) is lacks = lacks is.said is.job_text
 text_given (ListingVerdict job listing) is (inl lacks) = lacks is.said is.job_text
 text_given (ListingVerdict job listing) is (inr lacks) = lacks is.code is.listed is.listing_text
 text_given (CodeText job energy) is lacks = lacks is.said is.job_text
-text_given (CurveText job c) is (inl lacks) = lacks is.0.said is.0.job_text
-text_given (CurveText job c) is (inr (j, read, lacks)) =
-    pair_given j c.types (of_one job is.2.said j (λ k. HasPair k c.types) is.2.job_text read is.2.has) lacks
 text_given (Explanation code) is lacks = lacks
 
 -- nor its code
@@ -146,9 +144,20 @@ text_code_given (ListingVerdict job listing) is (j, read, (code, listed, text, (
     (subst (λ c. IsRefused is.said c f types) same (of_one job j is.said (λ k. IsRefused k code f types) read is.job_text refused))
 text_code_given (CodeText job energy) is (j, read, (r, none)) =
     err_is_no_ok r is.code (sym (of_one job j is.said (λ k. listed_code_of energy k ≡ Err r) read is.job_text none) ∙ is.compiled)
-text_code_given (CurveText job c) is (j, read, (has, inl none)) =
+text_code_given (Explanation code) is lacks = lacks
+
+-- ---- tables
+
+-- If the page gives tables, their data aren't rejected.
+pub tables_given : (job : List ℕ) (c : CurveView) → HasOutput (TablesOfJob job c) → IsNoJob job ⊎ OfJob job (λ j. LacksPair j c.types) → ⊥
+tables_given job c is (inl lacks) = lacks is.0.said is.0.job_text
+tables_given job c is (inr (j, read, lacks)) =
+    pair_given j c.types (of_one job is.2.said j (λ k. HasPair k c.types) is.2.job_text read is.2.has) lacks
+
+-- nor their code
+pub tables_code_given : (job : List ℕ) (c : CurveView) → HasOutput (TablesOfJob job c) → RejectsCode (TablesOfJob job c) → ⊥
+tables_code_given job c is (j, read, (has, inl none)) =
     slope_given is.0.said is.0.kernel is.0.slope (of_one job j is.0.said HasNoSlope read is.0.job_text none)
-text_code_given (CurveText job c) is (j, read, (has, inr (slope, none))) =
+tables_code_given job c is (j, read, (has, inr (slope, none))) =
     energy_given is.1.said is.1.code is.1.kernel is.1.compiled is.1.accepted
     (of_one job j is.1.said HasNoEnergyCode read is.1.job_text none)
-text_code_given (Explanation code) is lacks = lacks

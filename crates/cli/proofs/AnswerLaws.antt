@@ -4,7 +4,7 @@ use Rattle.command_line.specs.Commands.{CommandView}
 use Rattle.command_line.specs.CommandLine.{AsksForHelp, AsksForVersion, IsCommand, IsMisuse}
 use Rattle.command_line.proofs.OneCommand.{no_help, no_version, one_command}
 use Rattle.fallible.specs.Out.{Output}
-use Rattle.cli.specs.Actions.{AsksFor, EndOfRun, Held, OfKnownTask, OneText, Paths, StatesOfRun, StatesOfStream, Task, UpTo, also_requested, files_of}
+use Rattle.cli.specs.Actions.{AsksFor, EndOfRun, Held, OfKnownTask, OneText, Paths, StatesOfRun, StatesOfStream, TablesOfJob, Task, UpTo, also_requested, files_of}
 use Rattle.cli.specs.Command.{HasOutput, IsAnswer, IsNotRefused, IsSaid, PrintsBefore, PrintsError, PrintsIfCounted, line}
 use Rattle.cli.specs.CommandFailure.{IsFailure}
 use Rattle.cli.specs.Performed.{EndsIn}
@@ -72,6 +72,7 @@ misused_told f result Printed is (inr told) = inr told.0
 -- texts that were printed before an error are also before the error that memory ran out for its text
 before_memory : (t : Task) (status : ℕ) → PrintsBefore status t → PrintsBefore 4 t
 before_memory (OneText text) status h = absurd h
+before_memory (TablesOfJob job c) status h = refl
 before_memory (EndOfRun job state run) status h = absurd h
 before_memory (StatesOfRun Shows job state v) status h = refl
 before_memory (StatesOfStream o states job bytes) status h = tt

@@ -6,6 +6,7 @@ use Rattle.command_line.specs.Commands.{CommandView, CurveView, RunView, VisitsV
 use Rattle.command_line.specs.CommandLine.{IsCommand, IsMisuse}
 use Rattle.command_line.specs.Commands as command
 use Rattle.curves.specs.Tables.{HasNoCurve}
+use Rattle.curves.proofs.WritingLaws.{curve_failed}
 use Rattle.energy_program.specs.Faults as energies
 use Rattle.fallible.specs.Out.{AppendsBeginning, Output}
 use Rattle.fallible.specs.declared.output.OutFault.{OutFault}
@@ -41,15 +42,15 @@ use Rattle.runs.specs.Shown.{IsUnshown}
 use Rattle.runs.specs.Unwritten.{IsRunUnwritten}
 use Rattle.runs.specs.Visits.{Showing}
 use Rattle.runs.proofs.RunLaws.{run_unwritten, run_wants}
-use Rattle.cli.specs.Actions.{CodeText, Contents, CurveText, EndOfRun, Explanation, FrameText, Held, ListingVerdict, OfJob, OfKnownFiles, OfKnownTask, OfTask, OneText, Paths, QuantityText, SlopeVerdict, StartText, StatesOfRun, StatesOfStream, Task, Text, UpTo, action_of, also_requested, requested_by, check_action, files_of, work_of}
+use Rattle.cli.specs.Actions.{CodeText, Contents, EndOfRun, Explanation, FrameText, Held, ListingVerdict, OfJob, OfKnownFiles, OfKnownTask, OfTask, OneText, Paths, QuantityText, SlopeVerdict, StartText, StatesOfRun, StatesOfStream, TablesOfJob, Task, Text, UpTo, action_of, also_requested, requested_by, check_action, files_of, work_of}
 use Rattle.cli.specs.Command.{Any, HasOutput, HasText, IsKept, IsSaid, PrintsBefore, PrintsIfCounted, plan_of}
-use Rattle.cli.specs.CommandFailure.{BeginsOutput, DoNotFit, HasNoCode, HasNoEnergyCode, HasNoSlope, HaveNoEngine, IsCodeRejected, IsFailure, IsFileFailed, IsListingRejected, IsMisused, IsNoJob, IsNoListing, IsNoState, IsNotOneRun, IsOutOfMemory, IsOutputFailed, IsRejected, IsUnreadable, LackCode, LackSlope, LacksCode, LacksData, LacksFile, LacksTextCode, LeavesTexts, LosesStream, RejectsCode, RejectsData, RejectsNext, ReportsMemory, ReportsPart}
+use Rattle.cli.specs.CommandFailure.{BeginsOutput, DoNotFit, HasNoCode, HasNoEnergyCode, HasNoSlope, HaveNoEngine, IsCodeRejected, IsFailure, IsFileFailed, IsListingRejected, IsMisused, IsNoJob, IsNoListing, IsNoState, IsNotOneRun, IsOutOfMemory, IsOutputFailed, IsRejected, IsUnreadable, LackCode, LackSlope, LacksCode, LacksData, LacksFile, LacksTextCode, LeavesTexts, LosesStream, RejectsCode, RejectsData, RejectsNext, ReportsMemory}
 use Rattle.cli.specs.Conversions.{IsFrameOf, IsStartText}
-use Rattle.cli.specs.CurveTexts.{HasPair, IsFirstLacking, LacksPair, LacksType, Names}
+use Rattle.cli.specs.CurveTexts.{HasPair, IsFirstLacking, LacksPair, LacksType, Names, OfTables}
 use Rattle.cli.specs.Failures.{fault_of_run, fault_of_stream}
 use Rattle.cli.specs.Performed.{EndsIn}
 use Rattle.cli.specs.Progress.{ReportsBefore}
-use Rattle.cli.specs.Refusals.{HasNoBox, HasNoFrame, IsTaskUndone, IsTextUnwritten, IsUnread, IsUnreadOf, RefusesCode, RefusesCurve, RefusesFrame, RefusesListing, RefusesQuantity, RefusesSlope, RefusesState, RefusesText, RefusesUnder, unread}
+use Rattle.cli.specs.Refusals.{AreTablesUnwritten, HasNoBox, HasNoFrame, IsTaskUndone, IsTextUnwritten, IsUnread, IsUnreadOf, RefusesCode, RefusesCurve, RefusesFrame, RefusesListing, RefusesQuantity, RefusesSlope, RefusesState, RefusesText, RefusesUnder, unread}
 use Rattle.cli.specs.Reports.{IsReported}
 use Rattle.cli.specs.Statuses.{status_number, status_of}
 use Rattle.cli.specs.StreamTexts.{StreamPart, plan_of_replay, shows_of}
@@ -61,8 +62,9 @@ use Rattle.command_line.specs.declared.commands.Quantity.{Quantity}
 use Rattle.command_line.specs.declared.commands.Quantity.TheVariants as quantity
 use Rattle.state.specs.declared.sources.ReadFault.{ReadFault}
 use Rattle.state.specs.declared.sources.ReadFault.TheVariants as read
-use Rattle.cli.proofs.AcceptLaws.{code_given, code_of_texts_given, counter_given, engine_given, text_code_given, text_given}
+use Rattle.cli.proofs.AcceptLaws.{code_given, code_of_texts_given, counter_given, engine_given, tables_code_given, tables_given, text_code_given, text_given}
 use Rattle.cli.proofs.FileLaws.{AreHeld, gather, known_also, known_lacks, of_known, of_task}
+use Rattle.cli.proofs.LeftLaws.{MayLeave, lost, lost_left, rejected, stream_before, texts_left, texts_told}
 use Rattle.cli.proofs.ProgressLaws.{IsOnWay, data_memory, read_memory, told_code, told_data}
 use Rattle.cli.proofs.StatusLaws.{one_number}
 use Rattle.cli.proofs.StreamLaws.{IsSound, none_printed, sound_replayed, sound_shown, states_given, stream_code_given, stream_read}
@@ -272,7 +274,6 @@ text_cause (QuantityText q job state) f h = quantity_cause q job state f h
 text_cause (SlopeVerdict job) f h = slope_cause job f h
 text_cause (ListingVerdict job listing) f h = listing_cause job listing f h
 text_cause (CodeText job energy) f h = code_cause job energy f h
-text_cause (CurveText job c) f h = curve_cause job c f h
 text_cause (Explanation code) f h = absurd h
 
 -- a text of which a prefix was printed is one that a write failed for
@@ -283,15 +284,9 @@ text_failed (QuantityText q job state) before after h = h.written.failed
 text_failed (SlopeVerdict job) before after h = h.written.failed
 text_failed (ListingVerdict job listing) before after h = h.written.failed
 text_failed (CodeText job energy) before after h = h.written.failed
-text_failed (CurveText job c) before after h = h.written.failed
 text_failed (Explanation code) before after h = h.written.failed
 
 -- ---- ends of tasks
-
--- the task prints an output of a stream
-abbrev IsStream : Task → Type 0
-IsStream (StatesOfStream o states job bytes) = Unit {0}
-IsStream _ = ⊥
 
 -- the output of a stream, if the task prints one, is sound
 abbrev IsSoundTask : Task → Type 0
@@ -304,14 +299,14 @@ IsSoundTask _ = Unit {0}
 -- - `by_code`: code is rejected;
 -- - `by_file`: a stream can't be read on;
 -- - `by_output`: a write failed;
--- - `by_memory`: memory ran out, before any text or after some texts of a stream;
+-- - `by_memory`: memory ran out, before any text or after some tables or texts of a stream;
 -- - `by_steps`: memory ran out after some steps.
 data IsEnded {A : Type 0} (held : Held) (t : Task) (before after : Output) (f : CommandFault A) : Type 0 where
   by_data : status_of f ≡ status.RefusedData → (after ≡ before) ⊎ IsOnWay f → RejectsData t before after → IsEnded held t before after f
   by_code : status_of f ≡ status.RefusedKernel → RejectsCode t → after ≡ before → IsEnded held t before after f
   by_file : (borrowed : Bor (List ℕ)) → f ≡ fault.CannotRead borrowed → LosesStream held t before after → IsEnded held t before after f
   by_output : (o : OutFault) → f ≡ fault.Out o → BeginsOutput t before after → IsEnded held t before after f
-  by_memory : f ≡ fault.Memory → (after ≡ before) ⊎ (IsStream t × LeavesTexts t 0 before after) → IsEnded held t before after f
+  by_memory : f ≡ fault.Memory → (after ≡ before) ⊎ (MayLeave t × LeavesTexts t 0 before after) → IsEnded held t before after f
   by_steps : (done : ℕ) → f ≡ fault.Steps (step.Memory done) → LeavesTexts t done before after → IsEnded held t before after f
 
 -- a fault with a cause
@@ -327,6 +322,15 @@ text_ended : {A : Type 0} (held : Held) (t : Text) (before after : Output) (f : 
 text_ended held t before after f (inl (why, same)) =
     caused held (OneText t) (LacksData t) (LacksTextCode t) before after f (λ lacks. (lacks, same)) (λ x. x) same (text_cause t f why)
 text_ended held t before after f (inr (o, is, begun)) = by_output o is begun
+
+-- of the tables of a job's potential
+tables_ended : {A : Type 0} (held : Held) (job : List ℕ) (c : CurveView) (before after : Output) (f : CommandFault A)
+    → AreTablesUnwritten (RefusesUnder job (RefusesCurve c)) (OfTables job c) before after f
+    → IsEnded held (TablesOfJob job c) before after f
+tables_ended held job c before after f (inl (why, same)) =
+    caused held (TablesOfJob job c) _ _ before after f (λ lacks. (lacks, same)) (λ x. x) same (curve_cause job c f why)
+tables_ended held job c before after f (inr (inl (is, left))) = by_memory is (inr (tt, left))
+tables_ended held job c before after f (inr (inr (o, is, begun))) = by_output o is (o, begun)
 
 run_ended : {A : Type 0} (held : Held) (job state : List ℕ) (r : RunView) (before after : Output) (g : RunFault (InputFault A))
     → IsRunUnwritten job state r.direction r.steps before after g → IsEnded held (EndOfRun job state r) before after (fault_of_run g)
@@ -425,6 +429,7 @@ module _ {A : Type 0} (held : Held) (o : StreamOutput) (states job bytes : List 
 task_ended : {A : Type 0} (held : Held) (t : Task) (before after : Output) (f : CommandFault A) → IsSoundTask t
     → IsTaskUndone held t before after f → IsEnded held t before after f
 task_ended held (OneText text) before after f sound h = text_ended held text before after f h
+task_ended held (TablesOfJob job c) before after f sound h = tables_ended held job c before after f h
 task_ended held (EndOfRun job state r) before after f sound (g, same, h) =
     subst (IsEnded held (EndOfRun job state r) before after) (sym same)
     (run_ended held job state r before after g
@@ -445,6 +450,7 @@ IsToldStream held _ = Unit {0}
 -- If the page gives an output for a task, its data aren't rejected,
 data_given : (t : Task) (before after : Output) → IsSoundTask t → HasOutput t → RejectsData t before after → ⊥
 data_given (OneText text) before after sound has h = text_given text has h.0
+data_given (TablesOfJob job c) before after sound has h = tables_given job c has h.0
 data_given (EndOfRun job state r) before after sound (text, is, safe) (inl none, same) = engine_given job state safe none
 data_given (EndOfRun job state r) before after sound (text, is, safe) (inr leaves, same) =
     let stops = run_wants {A = Unit {0}} job state r.direction r.steps text before after is safe (run.Steps step.StepRange)
@@ -459,6 +465,7 @@ data_given (StatesOfStream o states job bytes) before after sound has h = states
 -- nor its code,
 rejected_code_given : (t : Task) → HasOutput t → RejectsCode t → ⊥
 rejected_code_given (OneText text) has lacks = text_code_given text has lacks
+rejected_code_given (TablesOfJob job c) has lacks = tables_code_given job c has lacks
 rejected_code_given (EndOfRun job state r) has lacks = code_of_texts_given job state has.2 lacks
 rejected_code_given (StatesOfRun Shows job state v) has lacks = code_given Shows.observes job state has.0 lacks
 rejected_code_given (StatesOfStream o states job bytes) has lacks = stream_code_given o job bytes has lacks
@@ -473,6 +480,7 @@ stream_given held _ before after sound has h = h
 -- a prefix of an output was printed, since a write failed
 begun_failed : (t : Task) (before after : Output) → BeginsOutput t before after → before.failed < after.failed
 begun_failed (OneText text) before after h = text_failed text before after h
+begun_failed (TablesOfJob job c) before after (f, (said, read, (plan, planned, (n, cut)))) = curve_failed said plan before after f n cut
 begun_failed (EndOfRun job state r) before after h = h.1.beginning.failed
 begun_failed (StatesOfRun Shows job state v) before after h =
     let same = h.2.shown.wrote.appends.failed in
@@ -521,65 +529,24 @@ output_given held c contents gives has =
     of_known held (files_of c) contents (λ x. HasOutput ((action_of c).task x) × IsToldStream held ((action_of c).task x)) gives
     (stream_known held c has)
 
--- the progress of a stream is that of some number of parts
-stream_told : (held : Held) (out out' : Output) (c : CommandView) (contents : Contents (files_of c)) (before after : Output)
-    → IsStream ((action_of c).task contents) → ReportsMemory (work_of held out out' c) before after
-    → ReportsPart (work_of held out out' c) before after
-stream_told held out out' (command.Replay r) contents before after is (inl bad) = absurd bad.0
-stream_told held out out' (command.Replay r) contents before after is (inr (inl none)) = absurd (none.0 tt)
-stream_told held out out' (command.Replay r) contents before after is (inr (inr part)) = part.1
-stream_told held out out' (command.Each e) contents before after is (inl bad) = absurd bad.0
-stream_told held out out' (command.Each e) contents before after is (inr (inl none)) = (0, none.1)
-stream_told held out out' (command.Each e) contents before after is (inr (inr bad)) = absurd bad.0
-stream_told held out out' (command.Check job listing progress) contents before after is told = absurd (of_check job listing contents is)
-  where
-    of_check : (job : List ℕ) (listing : Option (List ℕ)) (contents : Contents (check_action job listing).files)
-        → IsStream ((check_action job listing).task contents) → ⊥
-    of_check job None contents is = is
-    of_check job (Some listing) contents is = is
-stream_told held out out' _ contents before after is told = absurd is
-
--- texts of a stream were printed, however many parts were reported
-stream_left : (t : Task) (done : ℕ) (before after : Output) → IsStream t → LeavesTexts t 0 before after → LeavesTexts t done before after
-stream_left (StatesOfStream o states job bytes) done before after is left = left
-stream_left _ done before after is left = absurd is
-
 -- ---- what was printed
-
--- data that are rejected leave the output unchanged, or are behind the texts of some states of a stream
-rejected : (t : Task) (before after : Output) → RejectsData t before after
-    → (after ≡ before) ⊎ (IsStream t × LeavesTexts t 0 before after)
-rejected (OneText text) before after h = inl h.1
-rejected (EndOfRun job state r) before after h = inl h.1
-rejected (StatesOfRun Shows job state v) before after h = inl h.1
-rejected (StatesOfStream o states job bytes) before after (part, text, between, split, has, appends, next) =
-    inr (tt, (part, text, between, split, has, appends, next.1))
-
--- likewise if a stream can't be read on
-lost : (held : Held) (t : Task) (before after : Output) → LosesStream held t before after → IsStream t × LeavesTexts t 0 before after
-lost held (StatesOfStream o states job bytes) before after (part, text, between, split, has, appends, next) =
-    (tt, (part, text, between, split, has, appends, next.1))
-lost held _ before after h = absurd h
 
 -- data that are rejected leave the output unchanged, or are behind texts that a stream prints before any error
 rejected_before : (status : ℕ) {before after : Output} (t : Task) → RejectsData t before after → (after ≡ before) ⊎ PrintsBefore status t
 rejected_before status (OneText text) h = inl h.1
+rejected_before status (TablesOfJob job c) h = inl h.1
 rejected_before status (EndOfRun job state r) h = inl h.1
 rejected_before status (StatesOfRun Shows job state v) h = inl h.1
 rejected_before status (StatesOfStream o states job bytes) h = inr tt
 
--- texts that were left are those of a run that ran out of memory, or of a stream
+-- texts that were left are tables or those of a run that ran out of memory, or of a stream
 left_before : (t : Task) (done : ℕ) (before after : Output) → LeavesTexts t done before after
     → (after ≡ before) ⊎ PrintsBefore 4 t
 left_before (OneText text) done before after h = absurd h
+left_before (TablesOfJob job c) done before after h = inr refl
 left_before (EndOfRun job state r) done before after h = inl h.1
 left_before (StatesOfRun Shows job state v) done before after h = inr refl
 left_before (StatesOfStream o states job bytes) done before after h = inr tt
-
--- a stream prints before any error
-stream_before : (t : Task) (status : ℕ) → IsStream t → PrintsBefore status t
-stream_before (StatesOfStream o states job bytes) status is = tt
-stream_before _ status is = absurd is
 
 -- ---- files that gave no bytes
 
@@ -629,15 +596,15 @@ module _ (words : List (List ℕ)) (held : Held) (requested requested' : Paths) 
   abbrev pub IsKeptBut : (status : ℕ) → Type 0
   IsKeptBut status = IsKept out out' ⊎ ((c : CommandView) × IsCommand words c × OfTask held c (PrintsBefore status))
 
-  -- memory may run out where the output is unchanged, or after some texts of a stream
+  -- memory may run out where the output is unchanged, or after some tables or texts of a stream
   out_of_memory : (c : CommandView) (contents : Contents (files_of c)) → IsCommand words c → AreHeld held (files_of c) contents
       → requested' ≡ requested_by requested c → ReportsMemory (work_of held out out' c) err between
-      → (out' ≡ out) ⊎ (IsStream ((action_of c).task contents) × LeavesTexts ((action_of c).task contents) 0 out out')
+      → (out' ≡ out) ⊎ (MayLeave ((action_of c).task contents) × LeavesTexts ((action_of c).task contents) 0 out out')
       → IsOutOfMemory words held requested requested' out out' err between
   out_of_memory c contents named gives all told (inl same) = inr (inl (same, inr (c, named, told)))
-  out_of_memory c contents named gives all told (inr (is, left)) =
-      let part = stream_told held out out' c contents err between is told in
-      let left' = stream_left ((action_of c).task contents) part.0 out out' is left in
+  out_of_memory c contents named gives all told (inr (may, left)) =
+      let part = texts_told held out out' c contents err between gives may left told in
+      let left' = texts_left ((action_of c).task contents) part.0 out out' may left in
       inl (c, named, all, (part.0, of_task held c contents (λ t. LeavesTexts t part.0 out out') gives left', part.1))
 
   -- no progress may have been printed, or the fault may be on the way
@@ -763,7 +730,7 @@ module _ (words : List (List ℕ)) (held : Held) (requested requested' : Paths) 
   memory_of status.File (inr (inl (c, named, all, loses, quiet))) =
       let read = gather held (files_of c) (λ x. LosesStream held ((action_of c).task x) out out') loses in
       out_of_memory c read.0 named read.1 all (read_memory (work_of held out out' c) err between (orderly held out out' c) quiet)
-      (inr (lost held ((action_of c).task read.0) out out' read.2))
+      (inr (lost_left ((action_of c).task read.0) out out' (lost held ((action_of c).task read.0) out out' read.2)))
   memory_of status.File (inr (inr failed)) = inr (inr failed)
 
   -- the status with this number is reported, and this is how the program fails with it

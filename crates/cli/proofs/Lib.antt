@@ -5,6 +5,7 @@ pub mod FailureLaws
 pub mod FileLaws
 pub mod PerformLaws
 pub mod Printing
+pub mod LeftLaws
 pub mod ProgressLaws
 pub mod RefusalLaws
 pub mod ReplayLaws
@@ -15,6 +16,7 @@ pub mod StartLaws
 pub mod StatusLaws
 pub mod StreamLaws
 pub mod TypeLaws
+pub mod TableLaws
 pub mod VerdictLaws
 pub mod WorkLaws
 pub mod WorkLines

@@ -1,11 +1,11 @@
 -- The lines of works: how those before each end of a work fit one another, and that a work may have printed none yet.
 use Rattle.std.proofs.Common.{◌≡◌, ◌⊎◌, ◌*◌, ◌/◌, ℕ, List, [], Bool, true, false, Option, Some, None, append-nil, inl, inr, refl, sym, codes, IfSome}
-use Rattle.command_line.specs.Commands.{CommandView, ReplayView}
+use Rattle.command_line.specs.Commands.{CommandView, CurveView, ReplayView}
 use Rattle.command_line.specs.Commands as command
 use Rattle.fallible.specs.Out.{Output}
 use Rattle.runs.specs.Watching.{Report}
 use Rattle.streams.specs.Watched.{AreFirstWatched, AreWatchedTo}
-use Rattle.cli.specs.Actions.{AreCurveParts, AreSlices, Held, IsHeld, MayBegin, OfFile, OfReports, Work, parts_work, replay_work, steps_work, work_of}
+use Rattle.cli.specs.Actions.{AreSlices, Held, IsHeld, MayBegin, OfFile, OfReports, Work, curve_work, parts_work, replay_work, steps_work, work_of}
 use Rattle.cli.specs.Command.{PrintsLines}
 use Rattle.cli.specs.StreamTexts.{plan_of_replay}
 
@@ -45,6 +45,14 @@ orderly_parts : (progress : Bool) (word : List ℕ) (IsAll : ℕ → Type 0) →
 orderly_parts progress word IsAll =
     record { texts = λ lines h. inl h; some = λ bad lines h. absurd bad; whole = λ bad lines h. absurd bad }
 
+orderly_curve : (held : Held) (out out' : Output) (c : CurveView) → IsOrderly (curve_work held out out' c)
+orderly_curve held out out' c =
+    record { texts = λ lines h. inr (before_text lines h); some = λ bad lines h. absurd bad; whole = λ bad lines h. absurd bad }
+  where
+    before_text : (lines : List (List ℕ)) → (curve_work held out out' c).texts lines → (done : ℕ) × (curve_work held out out' c).part done lines
+    before_text lines (job, known, (j, read, (plan, planned, (f, n, cut, (all, is, few, same))))) =
+        (n, (all, (job, known, (j, read, (plan, planned, is))), few, same))
+
 orderly_replay : (held : Held) (out out' : Output) (r : ReplayView) → IsOrderly (replay_work held out out' r)
 orderly_replay held out out' r = record { texts = λ lines h. inr (before_text lines h); some = λ is lines. some lines; whole = λ is. all_read }
   where
@@ -72,7 +80,7 @@ orderly held out out' (command.Replay r) = orderly_replay held out out' r
 orderly held out out' (command.Observe v table) = orderly_steps v.run.progress (v.run.steps / v.every * v.every) (Some v.every)
 orderly held out out' (command.Check job listing progress) =
     orderly_parts progress (codes "slices") (λ all. OfFile held job (λ text. AreSlices text all))
-orderly held out out' (command.Curve c) = orderly_parts c.progress (codes "parts") (λ all. OfFile held c.job (λ job. AreCurveParts job c all))
+orderly held out out' (command.Curve c) = orderly_curve held out out' c
 orderly held out out' _ = orderly_steps false 0 None
 
 -- a file has some bytes

@@ -8,8 +8,11 @@ use Rattle.command_line.specs.Commands.{CommandView, CurveView, ReplayView, RunV
 use Rattle.command_line.specs.Commands as command
 use Rattle.command_line.specs.declared.commands.Quantity.{Quantity}
 use Rattle.curves.specs.Tables.{curve_parts}
+use Rattle.curves.specs.Writing.{IsCurveCut}
 use Rattle.curves.specs.declared.plans.CurvePlan.{CurvePlan}
 use Rattle.fallible.specs.Out.{AppendsBeginning, Output}
+use Rattle.fallible.specs.declared.failure.Failure.TheVariants.{Refused}
+use Rattle.fallible.specs.declared.output.OutFault.{OutFault}
 use Rattle.job.specs.JobText.{IsJobText, limits}
 use Rattle.job.specs.Values.{JobValue}
 use Rattle.potential.specs.Progress.{slices_of}
@@ -18,7 +21,7 @@ use Rattle.runs.specs.Observations.{ShowsTable}
 use Rattle.runs.specs.Visits.{Showing}
 use Rattle.runs.specs.Watching.{Report, hundredths, hundredths_behind}
 use Rattle.runs.specs.WholeStates.{ShowsState}
-use Rattle.cli.specs.CurveTexts.{IsPlanOf}
+use Rattle.cli.specs.CurveTexts.{OfTables}
 use Rattle.streams.specs.Replays.{replayed_by}
 use Rattle.streams.specs.Streams.{StreamOutput, shown_by}
 use Rattle.streams.specs.Watched.{AreAllWatched, AreFirstWatched, AreWatchedTo, AreWatchedUpTo}
@@ -87,13 +90,13 @@ pub data Text : Type 0 where
   SlopeVerdict : (job : List ℕ) → Text
   ListingVerdict : (job listing : List ℕ) → Text
   CodeText : (job : List ℕ) → (energy : Bool) → Text
-  CurveText : (job : List ℕ) → CurveView → Text
   Explanation : (code : Option (List ℕ)) → Text
 
--- What a command prints of the contents of its files: one text; the state after the steps of a run; the states of a run
--- on its way; or the output of a stream of states, the file at the path `states`.
+-- What a command prints of the contents of its files: one text; the tables of a job's potential; the state after the steps
+-- of a run; the states of a run on its way; or the output of a stream of states, the file at the path `states`.
 pub data Task : Type 1 where
   OneText : Text → Task
+  TablesOfJob : (job : List ℕ) → CurveView → Task
   EndOfRun : (job state : List ℕ) → RunView → Task
   StatesOfRun : Showing → (job state : List ℕ) → VisitsView → Task
   StatesOfStream : StreamOutput → (states job bytes : List ℕ) → Task
@@ -146,7 +149,7 @@ action_of (command.Measure q job state) = quantity_action q job state
 action_of (command.Each e) = stream_action (shown_by (shows_of e.shown)) e.job e.states
 action_of (command.Check job listing progress) = check_action job listing
 action_of (command.Code job energy) = of_one job (λ job. OneText (CodeText job energy))
-action_of (command.Curve c) = of_one c.job (λ job. OneText (CurveText job c))
+action_of (command.Curve c) = of_one c.job (λ job. TablesOfJob job c)
 action_of (command.Explain code) = of_none (OneText (Explanation code))
 
 -- the paths of the files of a command, in the order in which they are requested
@@ -180,10 +183,6 @@ OfJob job Holds = (said : JobValue) × IsJobText limits job said × Holds said
 -- the number of slices of all ordered pairs of types of the job
 abbrev pub AreSlices : (job : List ℕ) → ℕ → Type 0
 AreSlices job all = OfJob job (λ j. all ≡ slices_of j)
-
--- the number of parts of the table that the arguments request: the slices of both codes, and the rows
-abbrev pub AreCurveParts : (job : List ℕ) → CurveView → ℕ → Type 0
-AreCurveParts job c all = OfJob job (λ j. (plan : CurvePlan) × IsPlanOf j c plan × (all ≡ curve_parts j plan))
 
 -- the progress line after `made` of all parts of a work, which `word` names
 abbrev pub progress_line : (word : List ℕ) → (all made : ℕ) → List ℕ
@@ -237,17 +236,21 @@ steps_work progress n every = record {
 abbrev pub visits_work : VisitsView → Work
 visits_work v = steps_work v.run.progress (v.run.steps / v.every * v.every) (Some v.every)
 
--- a work that verifies code, and whose parts this word names
-abbrev pub parts_work : (progress : Bool) → (word : List ℕ) → (AreAll : ℕ → Type 0) → Work
-parts_work progress word AreAll = record {
+-- a work that verifies code, whose parts this word names, and that prints texts after these progress lines
+abbrev pub printing_work : (progress : Bool) → (word : List ℕ) → (AreAll : ℕ → Type 0) → (AreTexts : List (List ℕ) → Type 0) → Work
+printing_work progress word AreAll AreTexts = record {
   progress = progress;
   whole = AllLines word AreAll;
   part = FirstLines word AreAll;
-  texts = AllLines word AreAll;
+  texts = AreTexts;
   read = λ lines. lines ≡ [];
   verifies = Unit {0};
   replays = ⊥;
 }
+
+-- a work that verifies code, whose parts this word names, and that prints a text after all parts
+abbrev pub parts_work : (progress : Bool) → (word : List ℕ) → (AreAll : ℕ → Type 0) → Work
+parts_work progress word AreAll = printing_work progress word AreAll (AllLines word AreAll)
 
 -- the work of `check`, whose parts are the slices that it verifies
 abbrev pub check_work : Held → (job : List ℕ) → (progress : Bool) → Work
@@ -280,9 +283,20 @@ replay_work held out out' r = record {
   replays = Unit {0};
 }
 
--- the work of `curve`: the slices of the slope's code, then of the energy's, then the rows
-abbrev pub curve_work : Held → CurveView → Work
-curve_work held c = parts_work c.progress (codes "parts") (λ all. OfFile held c.job (λ job. AreCurveParts job c all))
+-- The progress lines of a curve before a write to standard output failed: those of all parts up to the last row of the
+-- tables of two types that the write belongs to. The output has the whole tables before, and a prefix of these.
+abbrev pub AreTableLines : JobValue → CurvePlan → (before after : Output) → (lines : List (List ℕ)) → Type 0
+AreTableLines j plan before after lines = (f : OutFault) × (n : ℕ) × IsCurveCut j plan before after (Refused f) n
+    × FirstLines (codes "parts") (λ all. all ≡ curve_parts j plan) n lines
+
+-- The work of a curve: the slices of the slope's code, then of the energy's, then the rows. `Of` says of which job and plan.
+abbrev pub tables_work : (progress : Bool) → (Of : (JobValue → CurvePlan → Type 0) → Type 0) → (out out' : Output) → Work
+tables_work progress Of out out' = printing_work progress (codes "parts") (λ all. Of (λ j plan. all ≡ curve_parts j plan))
+    (λ lines. Of (λ j plan. AreTableLines j plan out out' lines))
+
+-- the work of `curve`
+abbrev pub curve_work : Held → (out out' : Output) → CurveView → Work
+curve_work held out out' c = tables_work c.progress (λ Holds. OfFile held c.job (λ job. OfTables job c Holds)) out out'
 
 -- the work of each command, whose standard output was `out`, and is `out'`; the others report no progress
 abbrev pub work_of : Held → (out out' : Output) → CommandView → Work
@@ -292,5 +306,5 @@ work_of held out out' (command.States v) = visits_work v
 work_of held out out' (command.Replay r) = replay_work held out out' r
 work_of held out out' (command.Observe v table) = visits_work v
 work_of held out out' (command.Check job listing progress) = check_work held job progress
-work_of held out out' (command.Curve c) = curve_work held c
+work_of held out out' (command.Curve c) = curve_work held out out' c
 work_of held out out' _ = steps_work false 0 None

@@ -12,6 +12,8 @@
 use Rattle.std.specs.Prelude.{◌≡◌, ◌≢◌, ◌⊎◌, ◌≤◌, ◌<◌, ◌-◌, ◌/◌, ◌^◌, ℕ, suc, List, [], ◌∷◌, ◌++◌, Bool, true, false, map, codes}
 use Rattle.command_line.specs.Commands.{CommandView, RunView, VisitsView}
 use Rattle.command_line.specs.CommandLine.{AsksForHelp, AsksForVersion, IsCommand, IsMisuse}
+use Rattle.curves.specs.Tables.{IsCurve}
+use Rattle.curves.specs.Writing.{WroteSome}
 use Rattle.engine.specs.Engines.{AreSafe, CounterFits}
 use Rattle.engine.specs.RunSpecification.{IsLevesqueVerletRun, WroteLevesqueVerletRun}
 use Rattle.runs.specs.Plans.{PlanView, visits_plan}
@@ -19,9 +21,9 @@ use Rattle.runs.specs.Visits.{IsShownOfRun, Showing, WroteTexts}
 use Rattle.streams.specs.Streams.{WritesStates}
 use Rattle.fallible.specs.Out.{Appends, AppendsBeginning, Output}
 use Rattle.line_text.specs.Parts.{lacks}
-use Rattle.cli.specs.Actions.{AsksFor, CodeText, CurveText, EndOfRun, Explanation, FrameText, Held, ListingVerdict, OfKnownTask, OfTask, OneText, Paths, QuantityText, SlopeVerdict, StartText, StatesOfRun, StatesOfStream, Task, Text, Work, requested_by, progress_line, work_of}
+use Rattle.cli.specs.Actions.{AsksFor, CodeText, EndOfRun, Explanation, FrameText, Held, ListingVerdict, OfKnownTask, OfTask, OneText, Paths, QuantityText, SlopeVerdict, StartText, StatesOfRun, StatesOfStream, TablesOfJob, Task, Text, Work, requested_by, progress_line, work_of}
 use Rattle.cli.specs.Conversions.{IsCodeText, IsFrameText, IsStartText}
-use Rattle.cli.specs.CurveTexts.{HasNamedTypes, IsCurveText}
+use Rattle.cli.specs.CurveTexts.{HasNamedTypes, OfTables}
 use Rattle.cli.specs.Explained.{IsExplanation}
 use Rattle.cli.specs.Quantities.{IsQuantityText}
 use Rattle.cli.specs.StreamTexts.{HasStream}
@@ -53,7 +55,6 @@ PrintsVisits Shows job state v before after =
 --   atom or its velocity;
 -- - `check`: the verdict line of accepted code, the job's slope code or that of a listing;
 -- - `code`: the listing of the job's slope code, or with `--energy` of the code of the energy itself;
--- - `curve`: the table of the job's potential, with bounds on its errors, or the columns and types requested;
 -- - `explain`: the explanation for the code of an error, or without a code the overview of all codes.
 -- If an energy, forces or velocities were printed, the job's slope code is accepted too, since only an engine has them
 -- (`IsEngineOf.safe`).
@@ -64,17 +65,18 @@ HasText (QuantityText q job state) Wrote = IsQuantityText q job state Wrote
 HasText (SlopeVerdict job) Wrote = IsSlopeVerdict job Wrote
 HasText (ListingVerdict job listing) Wrote = IsListingVerdict job listing Wrote
 HasText (CodeText job energy) Wrote = IsCodeText job energy Wrote
-HasText (CurveText job c) Wrote = IsCurveText job c Wrote
 HasText (Explanation code) Wrote = IsExplanation code Wrote
 
 -- The output of a task was printed, the same with `--progress` as without:
 -- - its text;
+-- - `curve`: the tables of the job's potential, with bounds on its errors, or the columns and types requested;
 -- - the state after n steps;
 -- - a frame, a whole state or a table row every k steps;
 -- - with `--each`: a text for each state of a stream of one or more, in their order, each as its command shows it;
 -- - `replay`: a line for each replayed segment of a stream of one state or more, in their order. None differs.
 abbrev pub HasPrinted : Task → (before after : Output) → Type 0
 HasPrinted (OneText text) before after = HasText text (Appends before after)
+HasPrinted (TablesOfJob job c) before after = OfTables job c (λ j plan. WroteSome (IsCurve j plan) (Appends before after))
 HasPrinted (EndOfRun job state run) before after = PrintsRun job state run before after
 HasPrinted (StatesOfRun Shows job state v) before after = PrintsVisits Shows job state v before after
 HasPrinted (StatesOfStream o states job bytes) before after = WritesStates o bytes before after
@@ -202,24 +204,26 @@ HasRun job state run =
 abbrev pub HasCode : (Energies : Type 0) → (job state : List ℕ) → Type 0
 HasCode Energies job state = AreSafe job state × (Energies → HasEnergyCode job)
 
--- This page gives the text, with all its conditions met. `curve` needs both codes and the types that `--types` names.
+-- This page gives the text, with all its conditions met.
 abbrev pub GivesText : Text → Type 0
 GivesText (QuantityText q job state) = HasCode (q ≡ quantity.Energy) job state
-GivesText (CurveText job c) = IsSlopeVerdict job Any × HasEnergyCode job × HasNamedTypes job c.types
 GivesText (Explanation code) = Unit {0}
 GivesText text = HasText text Any
 
--- This page gives an output for the task, with all its conditions met. The step counter fits 64 bits after all steps. No
--- state of a stream that is replayed differs from the run of the state before.
+-- This page gives an output for the task, with all its conditions met. `curve` needs both codes and the types that
+-- `--types` names. The step counter fits 64 bits after all steps. No state of a stream that is replayed differs from the
+-- run of the state before.
 abbrev pub HasOutput : Task → Type 0
 HasOutput (OneText text) = GivesText text
+HasOutput (TablesOfJob job c) = IsSlopeVerdict job Any × HasEnergyCode job × HasNamedTypes job c.types
 HasOutput (EndOfRun job state run) = HasRun job state run
 HasOutput (StatesOfRun Shows job state v) = HasCode Shows.observes job state × CounterFits job state v.run.direction v.run.steps
 HasOutput (StatesOfStream o states job bytes) = HasStream o job bytes
 
--- Whole texts may be printed before an error with this status: the states of a run if memory ran out (4), and the
--- states of a stream.
+-- Whole texts may be printed before an error with this status: tables and the states of a run if memory ran out (4), and
+-- the states of a stream.
 abbrev pub PrintsBefore : (status : ℕ) → Task → Type 0
+PrintsBefore status (TablesOfJob job c) = status ≡ 4
 PrintsBefore status (StatesOfRun Shows job state v) = status ≡ 4
 PrintsBefore status (StatesOfStream o states job bytes) = Unit {0}
 PrintsBefore status _ = ⊥
@@ -233,8 +237,9 @@ pub record IsAnswer (words : List (List ℕ)) (held : Held) (requested requested
   pub done : status ≡ 0 → IsDone words held requested requested' out out'
   pub quiet : status ≡ 0 → IsQuiet words held out out' err err'
   -- Any other status means failure: the text of an error was printed, as far as standard error accepted it. Standard
-  -- output is unchanged, unless a write to it failed, or memory ran out (4) in a command that prints frames, states or
-  -- table rows, or the command reads a stream. What is printed in these cases is stated by the second half, `IsFailure`.
+  -- output is unchanged, unless a write to it failed, or memory ran out (4) in a command that prints frames, states,
+  -- table rows or tables, or the command reads a stream. What is printed in these cases is stated by the second half,
+  -- `IsFailure`.
   pub said : status ≢ 0 → (text : List ℕ) × IsSaid status text × PrintsError words held out out' status err err' text
   pub kept : status ≢ 0 → IsKept out out' ⊎ ((c : CommandView) × IsCommand words c × OfTask held c (PrintsBefore status))
   -- Status 2 means that the arguments name no command, and aren't answered with help or the version. Standard output is

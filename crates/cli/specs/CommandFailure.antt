@@ -4,14 +4,17 @@
 --
 -- Names. Paths, files and outputs are named as in the first half. `between` is standard error before the text of the
 -- error: with the progress lines, if any, that came before.
-use Rattle.std.specs.Prelude.{◌≡◌, ◌≢◌, ◌⊎◌, ◌<◌, ◌≤◌, ◌-◌, ◌^◌, ℕ, Bool, List, [], length, Option, Some, None, Err}
+use Rattle.std.specs.Prelude.{◌≡◌, ◌≢◌, ◌⊎◌, ◌<◌, ◌≤◌, ◌-◌, ◌^◌, ℕ, Bool, List, [], length, Option, None, Err}
 use Rattle.command_line.specs.Commands.{CommandView}
 use Rattle.command_line.specs.CommandLine.{AsksForHelp, AsksForVersion, IsCommand, IsMisuse}
 use Rattle.energy_program.specs.Faults.{Refusal}
 use Rattle.engine.specs.Engines.{AreSafe, CounterFits, CounterLeaves, OfSlope, OfTexts}
 use Rattle.engine.specs.RunSpecification.{IsTextOf}
 use Rattle.engine.specs.Ranges.{PassesRange}
+use Rattle.curves.specs.Writing.{IsCurveCut}
 use Rattle.fallible.specs.Out.{AppendsBeginning, Output}
+use Rattle.fallible.specs.declared.failure.Failure.TheVariants.{Memory, Refused}
+use Rattle.fallible.specs.declared.output.OutFault.{OutFault}
 use Rattle.integrator.specs.Starts.{energy_refused, system_of}
 use Rattle.integrator.specs.StartViews.{system_refusal}
 use Rattle.integrator.specs.declared.direction.Direction.{Direction}
@@ -33,10 +36,10 @@ use Rattle.verifier.specs.Kernels.{Kernel}
 use Rattle.verifier.specs.declared.faults.VerifyFault.{VerifyFault}
 use Rattle.state.specs.Sources.{StartsNoState}
 use Rattle.streams.specs.Streams.{OfFirst}
-use Rattle.cli.specs.Actions.{CodeText, CurveText, EndOfRun, Explanation, FrameText, Held, ListingVerdict, OfJob, OfTask, OneText, Paths, QuantityText, SlopeVerdict, StartText, StatesOfRun, StatesOfStream, Task, Text, UpTo, Work, also_requested, requested_by, files_of, work_of}
+use Rattle.cli.specs.Actions.{CodeText, EndOfRun, Explanation, FrameText, Held, ListingVerdict, OfJob, OfTask, OneText, Paths, QuantityText, SlopeVerdict, StartText, StatesOfRun, StatesOfStream, TablesOfJob, Task, Text, UpTo, Work, also_requested, requested_by, files_of, work_of}
 use Rattle.cli.specs.Command.{Any, HasText, IsSaid, PrintsIfCounted, PrintsLines, ReportsDone, plan_of, version_line}
 use Rattle.cli.specs.Conversions.{IsStartText, listed_code_of}
-use Rattle.cli.specs.CurveTexts.{HasPair, LacksPair}
+use Rattle.cli.specs.CurveTexts.{HasPair, LacksPair, OfTables}
 use Rattle.cli.specs.StreamTexts.{BeginsNext, PrintsFirst, StreamPart}
 use Rattle.command_line.specs.declared.commands.Quantity.TheVariants as quantity
 
@@ -77,7 +80,6 @@ LacksData (QuantityText q job state) = HaveNoEngine job state
 LacksData (SlopeVerdict job) = IsNoJob job
 LacksData (ListingVerdict job listing) = IsNoJob job ⊎ IsNoListing listing
 LacksData (CodeText job energy) = IsNoJob job
-LacksData (CurveText job c) = IsNoJob job ⊎ OfJob job (λ j. LacksPair j c.types)
 LacksData (Explanation code) = ⊥
 
 -- The job's text is none; or the bytes behind a part of a stream start with no state's text, or with that of a state that
@@ -94,6 +96,7 @@ IsNotOneRun part = (0 < part.count) × (0 < part.differing) × (part.rest ≡ []
 -- rejected after the texts of the states before; a stream that isn't of one run, after all its texts.
 abbrev pub RejectsData : Task → (before after : Output) → Type 0
 RejectsData (OneText text) before after = LacksData text × (after ≡ before)
+RejectsData (TablesOfJob job c) before after = (IsNoJob job ⊎ OfJob job (λ j. LacksPair j c.types)) × (after ≡ before)
 RejectsData (EndOfRun job state run) before after = HaveNoRun job state run.direction run.steps × (after ≡ before)
 RejectsData (StatesOfRun Shows job state v) before after =
     (HaveNoEngine job state ⊎ (HasBegun Shows job state × CounterLeaves job state v.run.direction v.run.steps)) × (after ≡ before)
@@ -147,12 +150,12 @@ LacksTextCode (QuantityText q job state) = LackCode (q ≡ quantity.Energy) job 
 LacksTextCode (SlopeVerdict job) = OfJob job HasNoSlope
 LacksTextCode (ListingVerdict job listing) = OfJob job (IsListingRejected listing)
 LacksTextCode (CodeText job energy) = OfJob job (HasNoCode energy)
-LacksTextCode (CurveText job c) = OfJob job (λ j. HasPair j c.types × LacksCode j)
 LacksTextCode _ = ⊥
 
 -- The energy of the job is rejected, or code: of a stream, the code that the text of the first state needs.
 abbrev pub RejectsCode : Task → Type 0
 RejectsCode (OneText text) = LacksTextCode text
+RejectsCode (TablesOfJob job c) = OfJob job (λ j. HasPair j c.types × LacksCode j)
 RejectsCode (EndOfRun job state run) = LackSlope job state
 RejectsCode (StatesOfRun Shows job state v) = LackCode Shows.observes job state
 RejectsCode (StatesOfStream o states job bytes) = OfFirst bytes (LackCode o.observes job)
@@ -176,10 +179,13 @@ LosesStream held _ before after = ⊥
 
 -- ---- outputs that end early
 
--- A prefix of the output of a task was printed, and then a write failed. Of the states of a run or of a stream, whole
+-- A prefix of the output of a task was printed, and then a write failed. Of tables, those before the tables of two types
+-- were printed, each whole, and then a prefix of the tables of these two. Of the states of a run or of a stream, whole
 -- texts were printed, and then a prefix of the next.
 abbrev pub BeginsOutput : Task → (before after : Output) → Type 0
 BeginsOutput (OneText text) before after = HasText text (AppendsBeginning before after)
+BeginsOutput (TablesOfJob job c) before after =
+    (f : OutFault) × OfTables job c (λ j plan. (n : ℕ) × IsCurveCut j plan before after (Refused f) n)
 BeginsOutput (EndOfRun job state run) before after =
     AreSafe job state × BeganLevesqueVerletRun job state run.direction run.steps before after
 BeginsOutput (StatesOfRun Shows job state v) before after =
@@ -187,10 +193,12 @@ BeginsOutput (StatesOfRun Shows job state v) before after =
     × LeftBeginning (IsShownOfRun Shows job state (plan_of v)) (plan_of v) before after (λ reports. Unit {0})
 BeginsOutput (StatesOfStream o states job bytes) before after = PrintsFirst o bytes before after (BeginsNext o)
 
--- Memory ran out after `done` steps of a run, or after the texts of some first states of a stream. `run` and `back`
--- printed no text; the other commands printed whole texts, and of a run never all.
+-- Memory ran out after `done` steps of a run, after the tables before those of two types, or after the texts of some first
+-- states of a stream. `run` and `back` printed no text; the other commands printed whole texts, and of a run or of tables
+-- never all.
 abbrev pub LeavesTexts : Task → (done : ℕ) → (before after : Output) → Type 0
 LeavesTexts (OneText text) done before after = ⊥
+LeavesTexts (TablesOfJob job c) done before after = OfTables job c (λ j plan. (n : ℕ) × IsCurveCut j plan before after Memory n)
 LeavesTexts (EndOfRun job state run) done before after =
     AreStopped job state run.direction run.steps (step.Memory done) × (after ≡ before)
 LeavesTexts (StatesOfRun Shows job state v) done before after =
@@ -268,8 +276,9 @@ module _ (words : List (List ℕ)) (held : Held) (requested requested' : Paths) 
       ⊎ ((c : CommandView) × IsCommand words c × (requested' ≡ requested_by requested c)
       × OfTask held c (λ task. BeginsOutput task out out') × ReportsTexts (work_of held out out' c) err between)
 
-  -- Memory ran out: after some steps of a run or of a replay; or in the work of `check` or `curve`; or before any step and
-  -- any output; or for the text of another error, of which a failed write has left a prefix of the output.
+  -- Memory ran out: after some steps of a run or of a replay, or after some tables; or in the work of `check` or `curve`;
+  -- or before any step and any output; or for the text of another error, of which a failed write has left a prefix of the
+  -- output.
   abbrev pub IsOutOfMemory : Type 0
   IsOutOfMemory = ((c : CommandView) × IsCommand words c × (requested' ≡ requested_by requested c)
       × ((done : ℕ) × OfTask held c (λ task. LeavesTexts task done out out') × ReportsDone (work_of held out out' c) done err between))

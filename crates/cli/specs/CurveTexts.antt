@@ -1,8 +1,6 @@
--- The table that `curve` prints, from the bytes read to the bytes printed. `Wrote` is the property that the output has
--- for the printed text.
+-- The tables that `curve` prints: the columns and the types that its arguments request of a job.
 use Rattle.command_line.specs.Commands.{CurveView}
 use Rattle.std.specs.Prelude.{◌≡◌, ◌⊎◌, ◌<◌, ℕ, Bool, true, false, List, length, Option, Some, None}
-use Rattle.curves.specs.Tables.{IsCurve}
 use Rattle.curve_lines.specs.declared.columns.CurveColumns.{CurveColumns}
 use Rattle.curve_lines.specs.declared.columns.CurveColumns.TheVariants.{All, Energy, Slope}
 use Rattle.curves.specs.declared.plans.CurvePlan.{CurvePlan}
@@ -52,7 +50,7 @@ pub record HasNamedTypes (job : List ℕ) (names : Names) : Type 0 where
   pub job_text : IsJobText limits job said
   pub has : HasPair said names
 
--- ---- the table
+-- ---- the tables
 
 -- the columns: those of the energy with only `--energy`, those of the slope with only `--slope`, otherwise all
 abbrev pub columns_shown : (energy slope : Bool) → CurveColumns
@@ -66,12 +64,10 @@ pub record IsPlanOf (j : JobValue) (c : CurveView) (plan : CurvePlan) : Type 0 w
   pub columns : plan.columns ≡ columns_shown c.energy c.slope
   pub pair : IsPairNamed j c.types plan.pair
 
--- the table that the arguments request, of a job's potential with bounds on its errors, was written
-pub record IsCurveText (job : List ℕ) (c : CurveView) (Wrote : List ℕ → Type 0) : Type 0 where
-  pub said : JobValue
-  pub plan : CurvePlan
-  pub text : List ℕ
-  pub job_text : IsJobText limits job said
-  pub planned : IsPlanOf said c plan
-  pub is : IsCurve said plan text
-  pub written : Wrote text
+-- the statement `Holds` is true of the plan that the arguments request
+abbrev pub OfPlan : JobValue → CurveView → (Holds : CurvePlan → Type 0) → Type 0
+OfPlan j c Holds = (plan : CurvePlan) × IsPlanOf j c plan × Holds plan
+
+-- likewise of the job of a text and of the plan
+abbrev pub OfTables : (job : List ℕ) → CurveView → (Holds : JobValue → CurvePlan → Type 0) → Type 0
+OfTables job c Holds = (said : JobValue) × IsJobText limits job said × OfPlan said c (Holds said)

@@ -1,7 +1,10 @@
 -- The faults of commands that come from failed calls.
+use Rattle.curves.specs.declared.faults.CurveFault.{CurveFault}
+use Rattle.curves.specs.declared.faults.CurveFault.TheVariants as curve
 use Rattle.fallible.specs.declared.failure.Failure.{Failure}
 use Rattle.fallible.specs.declared.failure.Failure.TheVariants.{Refused, Memory}
 use Rattle.engine.specs.declared.faults.InputFault.{InputFault}
+use Rattle.engine.specs.declared.faults.InputFault.TheVariants as input
 use Rattle.runs.specs.declared.faults.RunFault.{RunFault}
 use Rattle.runs.specs.declared.faults.RunFault.TheVariants as run
 use Rattle.std.specs.Borrow.{Bor}
@@ -15,6 +18,12 @@ use Rattle.cli.specs.declared.faults.CommandFault.TheVariants as fault
 abbrev pub command_fault : {A R : Type 0} → (R → CommandFault A) → Failure R → CommandFault A
 command_fault told (Refused f) = told f
 command_fault told Memory = fault.Memory
+
+-- the fault of a command that didn't print all tables
+abbrev pub fault_of_curve : {A : Type 0} → CurveFault A → CommandFault A
+fault_of_curve (curve.Rejected f) = fault.Rejected (input.Energy f)
+fault_of_curve curve.Memory = fault.Memory
+fault_of_curve (curve.Out f) = fault.Out f
 
 -- the fault of a command that didn't print all texts of its run
 abbrev pub fault_of_run : {A : Type 0} → RunFault (InputFault A) → CommandFault A

@@ -5,9 +5,13 @@ use Rattle.clap.specs.declared.error.kind.ErrorKind.{ErrorKind}
 use Rattle.clap.specs.declared.error.kind.ErrorKind.TheVariants.{DisplayHelp, DisplayVersion}
 use Rattle.command_line.specs.Commands.{CommandView}
 use Rattle.command_line.specs.CommandLine.{IsCommand}
+use Rattle.curves.specs.Tables.{IsCurve}
+use Rattle.curves.specs.Writing.{WroteSome}
+use Rattle.curves.specs.declared.plans.CurvePlan.{CurvePlan}
 use Rattle.engine.specs.Engines.{AreSafe, CounterFits}
 use Rattle.engine.specs.declared.faults.InputFault.{InputFault}
 use Rattle.fallible.specs.Out.{Appends, Output}
+use Rattle.job.specs.Values.{JobValue}
 use Rattle.runs.specs.Plans.{PlanView, last_text, steps_made}
 use Rattle.runs.specs.Shown.{HasShown, IsUnshown}
 use Rattle.runs.specs.Visits.{IsShownOfRun, Showing}
@@ -17,7 +21,7 @@ use Rattle.cli.specs.Actions.{Action, Contents, Held, OfFiles, Paths, action_of,
 use Rattle.cli.specs.Command.{HasPrinted, PrintsSome, version_line}
 use Rattle.cli.specs.Failures.{fault_of_run}
 use Rattle.cli.specs.Progress.{ReportsBefore, ReportsSteps}
-use Rattle.cli.specs.Refusals.{IsTaskUndone, IsTextUnwritten, IsUnanswered, IsUndone, IsUnreadOf}
+use Rattle.cli.specs.Refusals.{AreTablesUnwritten, IsTaskUndone, IsTextUnwritten, IsUnanswered, IsUndone, IsUnreadOf}
 use Rattle.cli.specs.declared.faults.CommandFault.{CommandFault}
 use Rattle.cli.specs.declared.faults.CommandFault.TheVariants as fault
 
@@ -27,6 +31,12 @@ abbrev pub WritesText : {T A : Type 0} → (CommandFault A → Type 0) → ((Lis
     → Result T (CommandFault A) → Type 0
 WritesText Why HasText before after result =
     MatchResult result (λ _. HasText (Appends before after)) (IsTextUnwritten Why HasText before after)
+
+-- The result of writing the tables of a job's potential; `Of` says of which job and plan. On success all of them were written.
+abbrev pub WritesTables : {T A : Type 0} → (Why : CommandFault A → Type 0) → (Of : (JobValue → CurvePlan → Type 0) → Type 0)
+    → (before after : Output) → Result T (CommandFault A) → Type 0
+WritesTables Why Of before after result =
+    MatchResult result (λ _. Of (λ j plan. WroteSome (IsCurve j plan) (Appends before after))) (AreTablesUnwritten Why Of before after)
 
 -- the result of writing this text, for which memory may run out before the write
 abbrev pub WritesLine : {T A : Type 0} → List ℕ → (before after : Output) → Result T (CommandFault A) → Type 0

@@ -5,8 +5,13 @@ use Rattle.std.proofs.lemmas.List.{map-append}
 use Rattle.std.specs.Result.{MatchResult}
 use Rattle.engine.specs.declared.faults.InputFault.{InputFault}
 use Rattle.engine.specs.declared.faults.InputFault.TheVariants as input
-use Rattle.fallible.specs.Out.{Output}
+use Rattle.curves.specs.Tables.{IsCurve, curve_parts}
+use Rattle.curves.specs.Writing.{IsCurveUnwritten, WroteSome}
+use Rattle.curves.specs.declared.faults.CurveFault.{CurveFault}
+use Rattle.curves.specs.declared.plans.CurvePlan.{CurvePlan}
+use Rattle.fallible.specs.Out.{Appends, Output}
 use Rattle.integrator.specs.declared.faults.StepFault.TheVariants as step
+use Rattle.job.specs.Values.{JobValue}
 use Rattle.command_line.specs.Commands.{CommandView}
 use Rattle.command_line.specs.CommandLine.{IsCommand}
 use Rattle.cli.specs.Actions.{Held, Work, report_line, work_of}
@@ -79,6 +84,16 @@ abbrev pub ReportsParts : {T F : Type 0} → (progress : Bool) → (word : List 
 ReportsParts progress word all before after result =
     MatchResult result (λ _. ReportsIf progress word all before after (hundredths all))
     (λ _. (done : ℕ) × (done ≤ all) × ReportsIf progress word all before after (hundredths_behind all 0 done))
+
+-- The tables of a job's potential were written according to a plan, and the progress lines of all parts; or they weren't
+-- because of the fault, and the lines are those of the parts before it.
+abbrev pub ReportsTables : {T A : Type 0} → (progress : Bool) → JobValue → CurvePlan → (out out' before after : Output)
+    → Result T (CurveFault A) → Type 0
+ReportsTables progress j plan out out' before after result = MatchResult result
+    (λ _. WroteSome (IsCurve j plan) (Appends out out')
+    × ReportsIf progress (codes "parts") (curve_parts j plan) before after (hundredths (curve_parts j plan)))
+    (λ f. (n : ℕ) × IsCurveUnwritten j plan out out' f n × (n ≤ curve_parts j plan)
+    × ReportsIf progress (codes "parts") (curve_parts j plan) before after (hundredths_behind (curve_parts j plan) 0 n))
 
 -- without reports the output is unchanged
 pub reports_none : (progress : Bool) (word : List ℕ) (all : ℕ) (o : Output) → ReportsIf progress word all o o []

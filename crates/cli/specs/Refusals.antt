@@ -8,6 +8,8 @@ use Rattle.clap.specs.declared.error.kind.ErrorKind.TheVariants.{DisplayHelp, Di
 use Rattle.command_line.specs.Commands.{CommandView, CurveView}
 use Rattle.command_line.specs.CommandLine.{IsCommand, IsMisuse}
 use Rattle.curves.specs.Tables.{HasNoCurve}
+use Rattle.curves.specs.Writing.{IsCurveCut}
+use Rattle.curves.specs.declared.plans.CurvePlan.{CurvePlan}
 use Rattle.energy_program.specs.Faults as energies
 use Rattle.engine.specs.Engines.{HasNoEngineOfTexts, IsOfEnergy}
 use Rattle.engine.specs.EngineEnergies.{HasNoEnergyOfTexts}
@@ -17,6 +19,7 @@ use Rattle.engine.specs.declared.faults.InputFault.{InputFault}
 use Rattle.engine.specs.declared.faults.InputFault.TheVariants as input
 use Rattle.runs.specs.declared.faults.RunFault.{RunFault}
 use Rattle.fallible.specs.Out.{AppendsBeginning, Output}
+use Rattle.fallible.specs.declared.failure.Failure.TheVariants.{Memory, Refused}
 use Rattle.fallible.specs.declared.output.OutFault.{OutFault}
 use Rattle.gro.specs.Frames.{FrameView}
 use Rattle.gro.specs.GroFaults.{IsTextFault}
@@ -37,11 +40,11 @@ use Rattle.runs.specs.Visits.{Showing}
 use Rattle.runs.specs.WholeStates.{ShowsState}
 use Rattle.streams.specs.Streams.{Breaks, StreamOutput}
 use Rattle.streams.specs.declared.faults.StreamFault.{StreamFault}
-use Rattle.cli.specs.Actions.{Action, CodeText, CurveText, EndOfRun, Explanation, FrameText, Held, ListingVerdict, OfFiles, OneText, Paths, QuantityText, SlopeVerdict, StartText, StatesOfRun, StatesOfStream, Task, Text, UpTo, action_of, all_requested, also_requested}
+use Rattle.cli.specs.Actions.{Action, CodeText, EndOfRun, Explanation, FrameText, Held, ListingVerdict, OfFiles, OneText, Paths, QuantityText, SlopeVerdict, StartText, StatesOfRun, StatesOfStream, TablesOfJob, Task, Text, UpTo, action_of, all_requested, also_requested}
 use Rattle.cli.specs.Command.{HasText, plan_of, version_line}
 use Rattle.cli.specs.CommandFailure.{BeginsSome, BeginsWish}
 use Rattle.cli.specs.Conversions.{IsFrameOf, listed_code_of}
-use Rattle.cli.specs.CurveTexts.{HasPair, IsFirstLacking, Names}
+use Rattle.cli.specs.CurveTexts.{HasPair, IsFirstLacking, Names, OfTables}
 use Rattle.cli.specs.Failures.{fault_of_run, fault_of_stream}
 use Rattle.cli.specs.declared.faults.CommandFault.{CommandFault}
 use Rattle.cli.specs.declared.faults.CommandFault.TheVariants as fault
@@ -146,7 +149,6 @@ RefusesText (QuantityText q job state) f = RefusesQuantity q job state f
 RefusesText (SlopeVerdict job) f = RefusesUnder job RefusesSlope f
 RefusesText (ListingVerdict job listing) f = RefusesUnder job (RefusesListing listing) f
 RefusesText (CodeText job energy) f = RefusesUnder job (RefusesCode energy) f
-RefusesText (CurveText job c) f = RefusesUnder job (RefusesCurve c) f
 RefusesText (Explanation code) f = ⊥
 
 -- ---- the output after a fault
@@ -157,6 +159,15 @@ abbrev pub IsTextUnwritten : {A : Type 0} → (CommandFault A → Type 0) → ((
     → (before after : Output) → CommandFault A → Type 0
 IsTextUnwritten Why HasText before after f = (Why f × (after ≡ before))
     ⊎ ((o : OutFault) × (f ≡ fault.Out o) × HasText (AppendsBeginning before after))
+
+-- Why not all tables were written, and the output's content. If there are no tables to write (`Why`), the output is
+-- unchanged. If memory ran out, it may hold the tables before those of two types, each whole. If the output failed, it
+-- holds such tables and a prefix of the tables of these two. `Of` says of which job and plan.
+abbrev pub AreTablesUnwritten : {A : Type 0} → (Why : CommandFault A → Type 0)
+    → (Of : (JobValue → CurvePlan → Type 0) → Type 0) → (before after : Output) → CommandFault A → Type 0
+AreTablesUnwritten Why Of before after f = (Why f × (after ≡ before))
+    ⊎ ((f ≡ fault.Memory) × Of (λ j plan. (n : ℕ) × IsCurveCut j plan before after Memory n))
+    ⊎ ((o : OutFault) × (f ≡ fault.Out o) × Of (λ j plan. (n : ℕ) × IsCurveCut j plan before after (Refused o) n))
 
 -- Why not all texts of a run were printed, and the output's content: the run has the same fault (`IsUnshown` of the
 -- crate `runs`). If memory ran out in the run, the output holds whole texts, possibly none. If the output failed, it
@@ -176,6 +187,8 @@ IsStreamUndone {A} o held states job bytes before after f = (g : StreamFault (In
 -- Why the output of a task wasn't printed, or not all of it, and the output's content.
 abbrev pub IsTaskUndone : {A : Type 0} → Held → Task → (before after : Output) → CommandFault A → Type 0
 IsTaskUndone held (OneText text) before after f = IsTextUnwritten (RefusesText text) (HasText text) before after f
+IsTaskUndone held (TablesOfJob job c) before after f =
+    AreTablesUnwritten (RefusesUnder job (RefusesCurve c)) (OfTables job c) before after f
 IsTaskUndone held (EndOfRun job state run) before after f =
     IsRunUndone ShowsState job state (end_plan run.direction run.steps) before after f
 IsTaskUndone held (StatesOfRun Shows job state v) before after f = IsRunUndone Shows job state (plan_of v) before after f

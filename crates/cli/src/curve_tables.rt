@@ -2,32 +2,26 @@
 
 ghost use Rattle.std.specs.Prelude.{◌≡◌, ◌≤◌, ◌-◌, ◌<◌, ◌^◌, IfErr, IfOk};
 ghost use Rattle.command_line.specs.Views.{curve_view, names_of};
-ghost use Rattle.cli.specs.Actions.{AreCurveParts, parts_work};
-ghost use Rattle.cli.specs.CurveTexts.{IsCurveText, IsFirstLacking, IsPairNamed, IsPlanOf, IsTypeNamed, LacksType, columns_shown};
-ghost use Rattle.cli.specs.Performed.{WritesText};
-ghost use Rattle.cli.specs.Progress.{Reports, ReportsParts, word_for};
+ghost use Rattle.cli.specs.Actions.{tables_work};
+ghost use Rattle.cli.specs.CurveTexts.{IsPairNamed, IsPlanOf, IsTypeNamed, LacksType, OfPlan, OfTables, columns_shown};
+ghost use Rattle.cli.specs.Performed.{WritesTables};
+ghost use Rattle.cli.specs.Progress.{Reports, ReportsTables};
 ghost use Rattle.cli.specs.Refusals.{RefusesCurve, RefusesTypes, RefusesUnder};
 ghost use Rattle.cli.specs.declared.faults.CommandFault.TheVariants as command;
-ghost use Rattle.cli.specs.declared.progress.Counted.TheVariants as counted;
-ghost use Rattle.curves.specs.Tables.{HasNoCurve, IsCurve, IsPairOf, curve_parts, table_count};
-ghost use Rattle.fallible.specs.Failures.{IfRefused};
-ghost use Rattle.curves.specs.declared.plans.CurvePlan.{CurvePlan};
-ghost use Rattle.job.specs.JobText.{IsJobText, limits};
-ghost use Rattle.job.specs.Values.{JobValue};
+ghost use Rattle.curves.specs.Tables.{IsPairOf, curve_parts, table_count};
 ghost use Rattle.job.specs.Views.{job_value};
 
-use crate::faults::{CommandFault, write_result};
+use crate::faults::CommandFault;
 use crate::progress::{Counted, PartLines};
 use crate::verdicts::slices_in;
 use command_line::Curve;
 use curve_lines::CurveColumns;
-use curves::{CurvePlan, curve_text};
-use fallible::{Failure, Out, write_all};
+use curves::{CurveFault, CurvePlan, write_curve};
+use fallible::Out;
 use job::Job;
-use potential::EnergyFault;
 use std::alloc::Allocator;
 
-/// Writes the table of a job's potential that the arguments of `curve` request.
+/// Writes the tables of a job's potential that the arguments of `curve` request, as they are made.
 ///
 /// Faults come in this order, and before any output: the job, the first name that no type of the job has, the job's
 /// slope code, the code of the energy itself. With `--progress` it reports the parts on `err`.
@@ -39,69 +33,54 @@ pub(crate) fn curve_bytes<'a, A: Allocator + Copy, O: Out, E: Out>(
     err: &mut E,
 ) -> Result<(), CommandFault<'a, A>>
     requires { (O.output out.old).failed < 2 ^ 64 - 1 }
-    ensures wrote { WritesText (RefusesUnder job.now (RefusesCurve (curve_view curve.now))) (IsCurveText job.now (curve_view curve.now))
+    ensures wrote { WritesTables (RefusesUnder job.now (RefusesCurve (curve_view curve.now))) (OfTables job.now (curve_view curve.now))
         (O.output out.old) (O.output out.new) result }
-    ensures reports { Reports (parts_work curve.now.progress (word_for counted.Parts) (AreCurveParts job.now (curve_view curve.now)))
-        (E.output err.old) (E.output err.new) result }
-{
-    let table = curve_read(alloc, job, curve, err)?;
-    write_result(write_all(out, &table))
-}
-
-/// The table of the potential of the job of a text.
-fn curve_read<'a, A: Allocator + Copy, E: Out>(
-    alloc: A,
-    job: &[u8],
-    curve: &Curve<'a>,
-    err: &mut E,
-) -> Result<Vec<u8, A>, CommandFault<'a, A>>
-    ensures is { IfOk result (λ table. (said : JobValue) × (plan : CurvePlan) × IsJobText limits job.now said
-        × IsPlanOf said (curve_view curve.now) plan × IsCurve said plan table.items) }
-    ensures refused { IfErr result (RefusesUnder job.now (RefusesCurve (curve_view curve.now))) }
-    ensures reports { Reports (parts_work curve.now.progress (word_for counted.Parts) (AreCurveParts job.now (curve_view curve.now)))
-        (E.output err.old) (E.output err.new) result }
+    ensures reports { Reports (tables_work curve.now.progress (OfTables job.now (curve_view curve.now))
+        (O.output out.old) (O.output out.new)) (E.output err.old) (E.output err.new) result }
 {
     let job = Job::read(alloc, job)?;
-    let table = curve_of(alloc, &job, curve, err);
+    let wrote = curve_of(alloc, &job, curve, out, err);
     drop(job);
-    table
+    wrote
 }
 
-/// The table of the potential of a job.
-fn curve_of<'a, A: Allocator + Copy, E: Out>(
+/// Writes the tables of the potential of a job.
+fn curve_of<'a, A: Allocator + Copy, O: Out, E: Out>(
     alloc: A,
     job: &Job<A>,
     curve: &Curve<'a>,
+    out: &mut O,
     err: &mut E,
-) -> Result<Vec<u8, A>, CommandFault<'a, A>>
-    ensures is { IfOk result (λ table. (plan : CurvePlan) × IsPlanOf (job_value job.now) (curve_view curve.now) plan
-        × IsCurve (job_value job.now) plan table.items) }
-    ensures refused { IfErr result (RefusesCurve (curve_view curve.now) (job_value job.now)) }
-    ensures reports { Reports (parts_work curve.now.progress (word_for counted.Parts) (λ all. (plan : CurvePlan)
-        × IsPlanOf (job_value job.now) (curve_view curve.now) plan × (all ≡ curve_parts (job_value job.now) plan)))
-        (E.output err.old) (E.output err.new) result }
+) -> Result<(), CommandFault<'a, A>>
+    requires { (O.output out.old).failed < 2 ^ 64 - 1 }
+    ensures wrote { WritesTables (RefusesCurve (curve_view curve.now) (job_value job.now))
+        (λ Holds. OfPlan (job_value job.now) (curve_view curve.now) (Holds (job_value job.now)))
+        (O.output out.old) (O.output out.new) result }
+    ensures reports { Reports (tables_work curve.now.progress
+        (λ Holds. OfPlan (job_value job.now) (curve_view curve.now) (Holds (job_value job.now)))
+        (O.output out.old) (O.output out.new)) (E.output err.old) (E.output err.new) result }
 {
     let plan = plan_of(job, curve)?;
-    let table = watched_curve(alloc, job, &plan, curve.progress, err);
-    Ok(table?)
+    let wrote = watched_curve(alloc, job, &plan, curve.progress, out, err);
+    Ok(wrote?)
 }
 
-/// The table of the potential of a job according to a plan. With `progress` it reports the parts on `err`.
-fn watched_curve<A: Allocator + Copy, E: Out>(
+/// Writes the tables of the potential of a job according to a plan. With `progress` it reports the parts on `err`.
+fn watched_curve<A: Allocator + Copy, O: Out, E: Out>(
     alloc: A,
     job: &Job<A>,
     plan: &CurvePlan,
     progress: bool,
+    out: &mut O,
     err: &mut E,
-) -> Result<Vec<u8, A>, Failure<EnergyFault<A>>>
-    requires { IsPairOf (job_value job.now) plan.now.pair }
-    ensures text { IfOk result (λ table. IsCurve (job_value job.now) plan.now table.items) }
-    ensures refused { IfErr result (λ failure. IfRefused failure (HasNoCurve (job_value job.now))) }
-    ensures reports { ReportsParts progress (word_for counted.Parts) (curve_parts (job_value job.now) plan.now)
+) -> Result<(), CurveFault<A>>
+    requires room { (O.output out.old).failed < 2 ^ 64 - 1 }
+    requires pair { IsPairOf (job_value job.now) plan.now.pair }
+    ensures { ReportsTables progress (job_value job.now) plan.now (O.output out.old) (O.output out.new)
         (E.output err.old) (E.output err.new) result }
 {
     let mut watch = PartLines::new(err, Counted::Parts, parts_in(job, plan), progress);
-    curve_text(alloc, job, plan, &mut watch)
+    write_curve(alloc, job, plan, out, &mut watch)
 }
 
 /// The number of parts of a table: the slices of two codes, and the rows.

@@ -2,12 +2,13 @@
 
 ghost use Rattle.std.specs.Prelude.{◌≡◌, ◌≤◌};
 ghost use Rattle.std.specs.Result.{result_map_both};
-ghost use Rattle.cli.specs.Failures.{command_fault, fault_of_run};
+ghost use Rattle.cli.specs.Failures.{command_fault, fault_of_curve, fault_of_run};
 ghost use Rattle.cli.specs.declared.faults.CommandFault.TheVariants as command;
 ghost use Rattle.engine.specs.declared.faults.InputFault.TheVariants as input;
 ghost use Rattle.potential.specs.declared.faults.EnergyFault.TheVariants as energy;
 
 use clap::Error;
+use curves::CurveFault;
 use energy_program::ExprFault;
 use engine::InputFault;
 use fallible::{Failure, OutFault};
@@ -152,6 +153,18 @@ impl<'a, A: Allocator> From<RunFault<InputFault<A>>> for CommandFault<'a, A> {
             RunFault::Memory => CommandFault::Memory,
             RunFault::Steps(fault) => CommandFault::Steps(fault),
             RunFault::Out(fault) => CommandFault::Out(fault),
+        }
+    }
+}
+
+impl<'a, A: Allocator> From<CurveFault<A>> for CommandFault<'a, A> {
+    ghost from_gives = { λ f e. e ≡ fault_of_curve f };
+
+    fn from(fault: CurveFault<A>) -> CommandFault<'a, A> {
+        match fault {
+            CurveFault::Rejected(fault) => CommandFault::Rejected(InputFault::Energy(fault)),
+            CurveFault::Memory => CommandFault::Memory,
+            CurveFault::Out(fault) => CommandFault::Out(fault),
         }
     }
 }

@@ -5,3 +5,4 @@ pub mod HalvingLaws
 pub mod TableLaws
 pub mod BoundLaws
 pub mod ReportLaws
+pub mod WritingLaws

@@ -1,5 +1,5 @@
 -- Values of a job's potential at a distance, its refusals, the inputs of a pair of types, and the texts of tables.
-use Rattle.std.proofs.Common.{◌≡◌, ◌≢◌, ◌∙◌, ℕ, ◌<◌, ◌≤◌, ◌*◌, ◌/◌, ◌+◌, List, [], ◌∷◌, ◌++◌, length, map, subst, sym, refl, add-one, arith, ap, inr, ℤ, IfOk, if◌then◌else◌, is_ok, None, Some, Result, Ok, Err, zero, suc, IsTrue, slice_index_or}
+use Rattle.std.proofs.Common.{◌≡◌, ◌∙◌, ℕ, ◌<◌, ◌≤◌, ◌*◌, ◌/◌, List, [], ◌∷◌, ◌++◌, length, map, subst, sym, refl, arith, ap, inr, ℤ, IfOk, Some, Result, zero, suc, IsTrue, slice_index_or}
 use Rattle.std.proofs.lemmas.List.{length-map}
 use Rattle.std.proofs.lemmas.Nat.{mul-le}
 use Rattle.std.proofs.Math.Nat.{div-le_of_le-mul}
@@ -27,10 +27,9 @@ use Rattle.potential.specs.declared.faults.EnergyFault.{EnergyFault}
 use Rattle.verifier.specs.Kernels.{Kernel}
 use Rattle.curves.specs.Potentials.{IsPotentialOf}
 use Rattle.curve_lines.specs.Bodies.{BodyView, IsBodyText}
-use Rattle.curve_lines.proofs.LineLaws.{joined}
 use Rattle.curves.specs.Slices.{AreBoundsOver, BoundsView}
 use Rattle.curves.specs.SoFar.{HasBody}
-use Rattle.curves.specs.Tables.{AreBothTables, AreRows, AreTables, AreTablesOf, HasNoCurve, IsCurve, IsRow, IsTable, IsTableBody, between_tables, columns_text, constants_of, distance_of, distances_of, names_text, others_of, pair_line, separator, table_text}
+use Rattle.curves.specs.Tables.{AreBothTables, AreRows, HasNoCurve, IsRow, IsTable, IsTableBody, OfPotential, constants_of, distance_of, distances_of, names_text, others_of, pair_line, table_text}
 use Rattle.curves.specs.declared.plans.CurvePlan.{CurvePlan}
 use Rattle.curves.specs.declared.potentials.Potential.{Potential}
 
@@ -120,16 +119,6 @@ pair_put r j a b t0 t1 first second one two put =
     subst (λ n. IfOk r (λ _. t1 ≡ t0 ++ names_text (name_of_type j a) n)) two
     (subst (λ n. IfOk r (λ _. t1 ≡ t0 ++ names_text n second)) one put)
 
--- a table's text, from the texts after each of its parts
-pub table_put : {X E : Type 0} (r : Result X E) (j : JobValue) (plan : CurvePlan) (a b : ℕ) (t0 t1 t2 t3 head body : List ℕ)
-    → t1 ≡ t0 ++ pair_line j a b → t2 ≡ t1 ++ head → head ≡ columns_text plan.columns
-    → t3 ≡ (if is_ok r then t2 ++ body else t2) → IfOk r (λ _. t3 ≡ t0 ++ table_text j plan a b body)
-table_put (Ok x) j plan a b t0 t1 t2 t3 head body named headed heads last =
-    let t3_is : t3 ≡ t1 ++ (columns_text plan.columns ++ body) =
-    joined t1 t2 t3 (columns_text plan.columns) body (headed ∙ ap (λ h. t1 ++ h) heads) last in
-    joined t0 t1 t3 (pair_line j a b) (columns_text plan.columns ++ body) named t3_is
-table_put (Err e) j plan a b t0 t1 t2 t3 head body named headed heads last = tt
-
 module _ (j : JobValue) (program : Trees) (plan : CurvePlan) where
   -- the body of a table, from its rows
   pub is_body : (a b c d : ℕ) (body : BodyView) (text : List ℕ) (is : HasBody j program plan c d body) → c ≡ a → d ≡ b
@@ -144,87 +133,25 @@ module _ (j : JobValue) (program : Trees) (plan : CurvePlan) where
       }
 
   -- the table of a pair of types, from its body
-  pub one_put : {X E : Type 0} (r : Result X E) (a b : ℕ) (t0 t1 body body' : List ℕ) → IsTableBody j program plan a b body
-      → body' ≡ body → IfOk r (λ _. t1 ≡ t0 ++ table_text j plan a b body')
-      → IfOk r (λ _. (table : List ℕ) × IsTable j program plan a b table × (t1 ≡ t0 ++ table))
-  one_put (Ok x) a b t0 t1 body body' is same put =
-      (table_text j plan a b body, record { body = body; is_body = is; is = refl }, put ∙ ap (λ t. t0 ++ table_text j plan a b t) same)
-  one_put (Err e) a b t0 t1 body body' is same put = tt
+  pub table_of_body : (a b : ℕ) (body body' : List ℕ) → IsTableBody j program plan a b body → body' ≡ body
+      → IsTable j program plan a b (table_text j plan a b body')
+  table_of_body a b body body' is same = record { body = body; is_body = is; is = ap (table_text j plan a b) same }
+
+  -- the table of a pair of types, behind another text, from its body
+  pub table_behind : (a b : ℕ) (before body body' : List ℕ) → IsTableBody j program plan a b body → body' ≡ body
+      → (table : List ℕ) × IsTable j program plan a b table × (before ++ table_text j plan a b body' ≡ before ++ table)
+  table_behind a b before body body' is same =
+      (table_text j plan a b body', table_of_body a b body body' is same, refl)
 
   -- one table of both pairs of two types
-  pub both_in_one : {X E : Type 0} (r : Result X E) (a b : ℕ) (t0 t1 t2 first second : List ℕ) → IsTableBody j program plan a b first
-      → IsTableBody j program plan b a second → first ≡ second → t1 ≡ t0 ++ pair_line j a b
-      → IfOk r (λ _. t2 ≡ t1 ++ table_text j plan b a first)
-      → IfOk r (λ _. (tables : List ℕ) × AreBothTables j program plan a b tables × (t2 ≡ t0 ++ tables))
-  both_in_one (Ok x) a b t0 t1 t2 first second one two same named put = (
-    pair_line j a b ++ table_text j plan b a first,
-    AreBothTables.one one (subst (IsTableBody j program plan b a) (sym same) two),
-    joined t0 t1 t2 (pair_line j a b) (table_text j plan b a first) named put,
-  )
-  both_in_one (Err e) a b t0 t1 t2 first second one two same named put = tt
+  pub both_in_one : (a b : ℕ) (first second : List ℕ) → IsTableBody j program plan a b first → IsTableBody j program plan b a second
+      → first ≡ second → AreBothTables j program plan a b (pair_line j a b ++ table_text j plan b a first)
+  both_in_one a b first second one two same = AreBothTables.one one (subst (IsTableBody j program plan b a) (sym same) two)
 
-  -- a table for each of both pairs of two types
-  pub both_in_two : {X E : Type 0} (r : Result X E) (a b : ℕ) (t0 t1 t2 t3 first second between : List ℕ) → IsTableBody j program plan a b first
-      → IsTableBody j program plan b a second → first ≢ second → t1 ≡ t0 ++ table_text j plan a b first → t2 ≡ t1 ++ between
-      → between ≡ between_tables → IfOk r (λ _. t3 ≡ t2 ++ table_text j plan b a second)
-      → IfOk r (λ _. (tables : List ℕ) × AreBothTables j program plan a b tables × (t3 ≡ t0 ++ tables))
-  both_in_two (Ok x) a b t0 t1 t2 t3 first second between one two differ put apart blank last =
-      let rest = table_text j plan b a second in
-      let t3_is : t3 ≡ t1 ++ (between_tables ++ rest) = joined t1 t2 t3 between_tables rest (apart ∙ ap (λ t. t1 ++ t) blank) last in (
-        table_text j plan a b first ++ (between_tables ++ rest),
-        AreBothTables.two one two differ,
-        joined t0 t1 t3 (table_text j plan a b first) (between_tables ++ rest) put t3_is,
-      )
-  both_in_two (Err e) a b t0 t1 t2 t3 first second between one two differ put apart blank last = tt
-
-  -- the table of a pair of types is the whole text
-  pub table_alone : (a b : ℕ) (t0 t1 : List ℕ) → t0 ≡ [] → (table : List ℕ) × IsTable j program plan a b table × (t1 ≡ t0 ++ table)
-      → IsTable j program plan a b t1
-  table_alone a b t0 t1 none (table, is, put) =
-      subst (IsTable j program plan a b) (sym (put ∙ ap (λ (t : List ℕ). t ++ table) none)) is
-
-  -- no tables yet
-  pub no_tables : (text : List ℕ) → text ≡ [] → AreTables j program plan 0 0 text
-  no_tables text is = subst (AreTables j program plan 0 0) (sym is) AreTables.none
-
-  -- the table of a type with itself is the next one
-  pub own_table : (a types : ℕ) (text t1 t2 : List ℕ) → types ≡ length j.types → a < types → AreTables j program plan a a text
-      → t1 ≡ text ++ separator a → (table : List ℕ) × IsTable j program plan a a table × (t2 ≡ t1 ++ table)
-      → AreTables j program plan a (a + 1) t2
-  own_table a types text t1 t2 count within so_far apart next =
-      let whole : t2 ≡ text ++ (separator a ++ next.0) = joined text t1 t2 (separator a) next.0 apart next.2 in
-      rw (add-one a) (rw whole (AreTables.own so_far (subst (λ n. a < n) count within) next.1))
-
-  -- the tables of two different types are the next ones
-  pub more_tables : (a b types : ℕ) (text t1 t2 between : List ℕ) → types ≡ length j.types → a < b → b < types
-      → AreTables j program plan a b text → t1 ≡ text ++ between → between ≡ between_tables
-      → (tables : List ℕ) × AreBothTables j program plan a b tables × (t2 ≡ t1 ++ tables) → AreTables j program plan a (b + 1) t2
-  more_tables a b types text t1 t2 between count before within so_far apart blank next =
-      let whole : t2 ≡ text ++ (between_tables ++ next.0) =
-      joined text t1 t2 between_tables next.0 (apart ∙ ap (λ t. text ++ t) blank) next.2 in
-      rw (add-one b) (rw whole (AreTables.both so_far before (subst (λ n. b < n) count within) next.1))
-
-  -- all tables of a type are there
-  pub next_type : (a b types : ℕ) (text : List ℕ) → b ≡ types → types ≡ length j.types → AreTables j program plan a b text
-      → AreTables j program plan (a + 1) (a + 1) text
-  next_type a b types text last count are =
-      rw (add-one a) (AreTables.next (subst (λ n. AreTables j program plan a n text) (last ∙ count) are))
-
-  -- the table of the pair that the plan names
-  pub one_table : (a b : ℕ) (text : List ℕ) → plan.pair ≡ Some (a, b) → IsTable j program plan a b text
-      → AreTablesOf j program plan plan.pair text
-  one_table a b text named is = subst (λ pair. AreTablesOf j program plan pair text) (sym named) is
-
-  -- the tables of all pairs, if the plan names none
-  pub every_table : (types : ℕ) (text : List ℕ) → plan.pair ≡ None → types ≡ length j.types → AreTables j program plan types types text
-      → AreTablesOf j program plan plan.pair text
-  every_table types text none count are =
-      subst (λ pair. AreTablesOf j program plan pair text) (sym none) (subst (λ n. AreTables j program plan n n text) count are)
-
--- the text of a job's potential
-pub is_curve : {A : Type 0} (j : JobValue) (plan : CurvePlan) (potential : Potential A) (text : List ℕ) → IsPotentialOf j potential
-    → AreTablesOf j (trees_of potential.slope.energy) plan plan.pair text → IsCurve j plan text
-is_curve j plan potential text is tables =
+-- a statement about the program of a job's potential
+pub of_potential : {A : Type 0} (j : JobValue) (potential : Potential A) (Are : Trees → Type 0) → IsPotentialOf j potential
+    → Are (trees_of potential.slope.energy) → OfPotential j Are
+of_potential j potential Are is are =
     let energy = potential.slope.energy in
     let inputs = input_count_of energy in
     record {
@@ -240,5 +167,5 @@ is_curve j plan potential text is tables =
             energy.body_scoped,
         energy.definitions_scoped,
       );
-      tables = tables;
+      tables = are;
     }

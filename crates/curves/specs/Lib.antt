@@ -3,3 +3,4 @@ pub mod Tables
 pub mod SoFar
 pub mod Potentials
 pub mod Progress
+pub mod Writing

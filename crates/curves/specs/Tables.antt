@@ -141,9 +141,8 @@ table_count j (Some pair) = 1
 abbrev pub IsPairOf : JobValue → (pair : Option (ℕ × ℕ)) → Type 0
 IsPairOf j pair = IfSome pair (λ (p : ℕ × ℕ). (p.0 < length j.types) × (p.1 < length j.types))
 
--- The text of a job's potential according to a plan: the code of the slope and the code of the energy itself are
--- accepted.
-pub record IsCurve (j : JobValue) (plan : CurvePlan) (text : List ℕ) : Type 0 where
+-- The code of a job's slope and the code of its energy itself are accepted, and `Are` holds of the energy's program.
+pub record OfPotential (j : JobValue) (Are : Trees → Type 0) : Type 0 where
   pub slope : Kernel
   pub is_slope : IsSlopeKernel j slope
   pub energy : Kernel
@@ -152,7 +151,11 @@ pub record IsCurve (j : JobValue) (plan : CurvePlan) (text : List ℕ) : Type 0 
   pub its : job_program j ≡ Ok program
   pub inputs : ℕ
   pub scoped : IsScoped inputs program
-  pub tables : AreTablesOf j program plan plan.pair text
+  pub tables : Are program
+
+-- the text of a job's potential according to a plan
+abbrev pub IsCurve : JobValue → CurvePlan → (text : List ℕ) → Type 0
+IsCurve j plan text = OfPotential j (λ program. AreTablesOf j program plan plan.pair text)
 
 -- the number of parts of a curve: the slices of the slope's code, the slices of the energy's code, and the rows of all
 -- pairs of types

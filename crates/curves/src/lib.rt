@@ -1,6 +1,7 @@
 //! Potentials as they are computed, with certified bounds on their distance from the formula over exact numbers.
 #![tactic(auto)]
 
+mod faults;
 mod laws;
 mod pairs;
 mod plans;
@@ -8,7 +9,9 @@ mod potentials;
 mod rows;
 mod slices;
 mod tables;
+mod writing;
 
+pub use faults::CurveFault;
 pub use laws::errors_are_bounded;
 pub use plans::CurvePlan;
-pub use tables::curve_text;
+pub use writing::write_curve;

@@ -3,7 +3,7 @@ ghost use Rattle.std.specs.Prelude.{◌≤◌};
 
 use curve_lines::CurveColumns;
 
-/// What `curve_text` prints of a job's potential.
+/// What `write_curve` writes of a job's potential.
 #[derive(Clone, Copy)]
 pub struct CurvePlan {
     /// The number n of rows after the first, from 1 to 1,000,000.

@@ -1267,7 +1267,7 @@ If an allocation fails, the progress printed so far comes before the error's lin
   pairmd: 1 of 2 slices
   pairmd: Memory [4]
 
-If the output fails, all progress has been printed. If standard error fails, the output is unchanged.
+If the output fails, all progress of a single table has been printed. If standard error fails, the output is unchanged.
 
   $ with job 6 'slices 2' outputs pairmd check job --progress
   0-37: a beginning, pairmd: 1 of 2 slices
@@ -1287,3 +1287,51 @@ If the output fails, all progress has been printed. If standard error fails, the
   $ with job 6 'slices 1' errors pairmd curve job --points 1 --progress
   0-83: each line as far as it is taken
   84: all
+
+A table is printed as soon as its rows are there, so the output may fail after some of the progress.
+
+  $ with job 6 'slices 1' with job 7 'type AR 1\ntype KR 1' outputs pairmd curve job --points 1 --energy --progress
+  0-170: a beginning, pairmd: 1 of 16 parts
+  pairmd: 2 of 16 parts
+  pairmd: 3 of 16 parts
+  pairmd: 4 of 16 parts
+  pairmd: 5 of 16 parts
+  pairmd: 6 of 16 parts
+  pairmd: 7 of 16 parts
+  pairmd: 8 of 16 parts
+  pairmd: 9 of 16 parts
+  pairmd: 10 of 16 parts
+  pairmd: O2 CannotWrite [5]
+  171-351: a beginning, pairmd: 1 of 16 parts
+  pairmd: 2 of 16 parts
+  pairmd: 3 of 16 parts
+  pairmd: 4 of 16 parts
+  pairmd: 5 of 16 parts
+  pairmd: 6 of 16 parts
+  pairmd: 7 of 16 parts
+  pairmd: 8 of 16 parts
+  pairmd: 9 of 16 parts
+  pairmd: 10 of 16 parts
+  pairmd: 11 of 16 parts
+  pairmd: 12 of 16 parts
+  pairmd: 13 of 16 parts
+  pairmd: 14 of 16 parts
+  pairmd: O2 CannotWrite [5]
+  352-524: a beginning, pairmd: 1 of 16 parts
+  pairmd: 2 of 16 parts
+  pairmd: 3 of 16 parts
+  pairmd: 4 of 16 parts
+  pairmd: 5 of 16 parts
+  pairmd: 6 of 16 parts
+  pairmd: 7 of 16 parts
+  pairmd: 8 of 16 parts
+  pairmd: 9 of 16 parts
+  pairmd: 10 of 16 parts
+  pairmd: 11 of 16 parts
+  pairmd: 12 of 16 parts
+  pairmd: 13 of 16 parts
+  pairmd: 14 of 16 parts
+  pairmd: 15 of 16 parts
+  pairmd: 16 of 16 parts
+  pairmd: O2 CannotWrite [5]
+  525: all

@@ -80,6 +80,29 @@ allocation belongs to a step of a run, the error prints the number of whole step
   $ requests pairmd curve job --points 1 --energy --types AR AR
   pairmd: Memory [4]
   all
+  $ with job 7 'type AR 1\ntype KR 1' requests pairmd curve job --points 1 --energy
+  pairmd: Memory [4]
+  all
+  # AR AR
+  # r/nm energy/(kJ/mol) energy-error
+  0.199999999953 5.000000001164 5.83e-9
+  0.899999999674 1.111111111473 2.89e-10
+  # greatest energy-error 5.83e-9 at 0.199999999953
+  pairmd: Memory [4]
+  # AR AR
+  # r/nm energy/(kJ/mol) energy-error
+  0.199999999953 5.000000001164 5.83e-9
+  0.899999999674 1.111111111473 2.89e-10
+  # greatest energy-error 5.83e-9 at 0.199999999953
+  
+  
+  # AR KR
+  # KR AR
+  # r/nm energy/(kJ/mol) energy-error
+  0.199999999953 5.000000001164 5.83e-9
+  0.899999999674 1.111111111473 2.89e-10
+  # greatest energy-error 5.83e-9 at 0.199999999953
+  pairmd: Memory [4]
   $ requests pairmd code job
   pairmd: Memory [4]
   all

@@ -40,6 +40,9 @@ returns-in-Code-clause-performs g c = rw c.in-Code.is c.perform_code.ensures
 pub returns-in-Curve-clause-performs : goal.returns-in-Curve-clause-performs
 returns-in-Curve-clause-performs g c = rw c.in-Curve.is c.perform_curve.ensures.performs
 
+pub returns-in-Curve-clause-reports : goal.returns-in-Curve-clause-reports
+returns-in-Curve-clause-reports g c = rw c.in-Curve.is c.perform_curve.ensures.reports
+
 pub returns-in-Explain-clause-performs : goal.returns-in-Explain-clause-performs
 returns-in-Explain-clause-performs g c = rw c.in-Explain.is
     (c.perform_explain.ensures (g.F.Files.held c.args.files.now) (g.F.Files.requested c.args.files.now))

@@ -4,5 +4,5 @@ use Rattle.cli.proofs.execution.perform_curve.Goals as goal
 
 pub returns-clause-reports : goal.returns-clause-reports
 returns-clause-reports g c =
-    curve_reports c.curve_bytes.result (g.F.Files.held c.args.files.now) (curve_view c.args.curve) c.in_ok-job.job.items _ _ c.in_ok-job.ensures.reads.1
+    curve_reports c.curve_bytes.result (g.F.Files.held c.args.files.now) (curve_view c.args.curve) c.in_ok-job.job.items _ _ _ _ c.in_ok-job.ensures.reads.1
     (rw c.deref.ensures.value at c.curve_bytes.ensures.reports)
