@@ -722,8 +722,9 @@ module _ (words : List (List ℕ)) (held : Held) (requested requested' : Paths) 
       out_of_memory c read.0 named read.1 all (data_memory (work_of held out out' c) err between (orderly held out out' c) still)
       (rejected ((action_of c).task read.0) out out' read.2)
   memory_of status.CommandLine (misuse, still, same, quiet) = inr (inl (same, inl quiet))
-  memory_of status.RefusedKernel (c, named, rejects, all, same, inl quiet) = inr (inl (same, inl quiet))
-  memory_of status.RefusedKernel (c, named, rejects, all, same, inr part) = inr (inl (same, inr (c, named, inl part)))
+  memory_of status.RefusedKernel (c, named, rejects, all, same, inl none) = inr (inl (same, inl none.1))
+  memory_of status.RefusedKernel (c, named, rejects, all, same, inr (verifies, (done, is, part))) =
+      inr (inl (same, inr (c, named, inl (verifies, (done, part)))))
   memory_of status.Memory h = h
   memory_of status.File (inl (c, named, lacks, same, quiet)) =
       inr (inl (same, inr (c, named, read_memory (work_of held out out' c) err between (orderly held out out' c) quiet)))

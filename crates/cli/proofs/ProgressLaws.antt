@@ -52,7 +52,8 @@ unread_quiet r held work o path requested requested' f begins is h =
 -- a command without progress prints none
 pub silent : {T A : Type 0} (r : Result T (CommandFault A)) (o : Output) → Reports (steps_work false 0 None) o o r
 silent (Ok x) o = refl
-silent (Err (fault.Rejected (input.Energy f))) o = inl refl
+silent (Err (fault.Rejected (input.Energy f))) o = inl (λ x. x, refl)
+silent (Err (fault.InState n (input.Energy f))) o = inl (λ x. x, refl)
 silent (Err fault.Memory) o = inr (inl (λ x. x, refl))
 silent (Err (fault.CannotRead path)) o = inl (λ x. x, refl)
 silent (Err (fault.InState n (input.Job f))) o = inl (λ x. x, refl)
@@ -201,8 +202,11 @@ pub told_late : {A : Type 0} (work : Work) (before after : Output) (f : CommandF
 told_late work before after (fault.Steps (step.Memory done)) fits h = inr (tt, part_reached work done before after h)
 told_late work before after (fault.Out o) fits h =
     inr (tt, lines_also work.progress work.texts (AreReached work) before after fits.texts h)
-told_late work before after (fault.Rejected (input.Energy f)) fits (inl same) = inl same
-told_late work before after (fault.Rejected (input.Energy f)) fits (inr (verifies, (done, h))) =
+told_late work before after (fault.Rejected (input.Energy f)) fits (inl none) = inl none.1
+told_late work before after (fault.Rejected (input.Energy f)) fits (inr (verifies, (done, rejects, h))) =
+    inr (verifies, part_reached work done before after h)
+told_late work before after (fault.InState n (input.Energy f)) fits (inl none) = inl none.1
+told_late work before after (fault.InState n (input.Energy f)) fits (inr (verifies, (done, rejects, h))) =
     inr (verifies, part_reached work done before after h)
 told_late work before after fault.Memory fits (inl (verifies, (done, h))) = inr (tt, part_reached work done before after h)
 told_late work before after fault.Memory fits (inr h) =
@@ -229,12 +233,23 @@ told_code work before after (fault.Out o) is h = let bad : status.File ≡ statu
 told_code work before after (fault.Rejected (input.Energy f)) is h = h
 told_code work before after fault.Memory is h = let bad : status.Memory ≡ status.RefusedKernel = is in cc
 told_code work before after (fault.CannotRead path) is h = let bad : status.File ≡ status.RefusedKernel = is in cc
+told_code work before after (fault.InState n (input.Energy f)) is h = h
 told_code work before after (fault.InState n (input.Job f)) is h = let bad : status.RefusedData ≡ status.RefusedKernel = is in cc
 told_code work before after (fault.InState n (input.State f)) is h = let bad : status.RefusedData ≡ status.RefusedKernel = is in cc
 told_code work before after (fault.InState n (input.System f)) is h = let bad : status.RefusedData ≡ status.RefusedKernel = is in cc
 told_code work before after (fault.InState n input.ForceRange) is h = let bad : status.RefusedData ≡ status.RefusedKernel = is in cc
 told_code work before after (fault.NotOneRun n) is h = let bad : status.RefusedData ≡ status.RefusedKernel = is in cc
-told_code work before after _ is h = inl h
+told_code work before after (fault.CommandLine e) is h = let bad : status.CommandLine ≡ status.RefusedKernel = is in cc
+told_code work before after fault.NotText is h = let bad : status.CommandLine ≡ status.RefusedKernel = is in cc
+told_code work before after (fault.Rejected (input.Job f)) is h = let bad : status.RefusedData ≡ status.RefusedKernel = is in cc
+told_code work before after (fault.Rejected (input.State f)) is h = let bad : status.RefusedData ≡ status.RefusedKernel = is in cc
+told_code work before after (fault.Rejected (input.System f)) is h = let bad : status.RefusedData ≡ status.RefusedKernel = is in cc
+told_code work before after (fault.Rejected input.ForceRange) is h = let bad : status.RefusedData ≡ status.RefusedKernel = is in cc
+told_code work before after (fault.NoSuchType name) is h = let bad : status.RefusedData ≡ status.RefusedKernel = is in cc
+told_code work before after (fault.Gro f) is h = let bad : status.RefusedData ≡ status.RefusedKernel = is in cc
+told_code work before after (fault.Box f) is h = let bad : status.RefusedData ≡ status.RefusedKernel = is in cc
+told_code work before after (fault.Listing f) is h = let bad : status.RefusedData ≡ status.RefusedKernel = is in cc
+told_code work before after (fault.Steps step.StepRange) is h = let bad : status.RefusedData ≡ status.RefusedKernel = is in cc
 
 -- The fault may come after the first state of a stream that is replayed.
 abbrev pub IsOnWay : {A : Type 0} → CommandFault A → Type 0

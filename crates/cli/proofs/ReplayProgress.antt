@@ -83,7 +83,8 @@ module _ (held : Held) (r : ReplayView) (job : List ℕ) (known : IsHeld held r.
       → ReportsBefore (work_of held o o' (command.Replay r)) err err' (fault_of_stream path f)
   before_fault path bytes reports (stream.Rejected (input.Job f)) read (still, none) told = nothing r.progress err err' reports none told
   before_fault path bytes reports (stream.Rejected (input.State f)) read (still, none) told = nothing r.progress err err' reports none told
-  before_fault path bytes reports (stream.Rejected (input.Energy f)) read (still, none) told = inl (nothing r.progress err err' reports none told)
+  before_fault path bytes reports (stream.Rejected (input.Energy f)) read (still, none) told =
+      inl (λ x. x, nothing r.progress err err' reports none told)
   before_fault path bytes reports (stream.Rejected (input.System f)) read (still, none) told = nothing r.progress err err' reports none told
   before_fault path bytes reports (stream.Rejected input.ForceRange) read (still, none) told = nothing r.progress err err' reports none told
   before_fault path bytes reports (stream.State n (input.Job f)) read (bad, are) told = absurd bad

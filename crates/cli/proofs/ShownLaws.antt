@@ -143,7 +143,7 @@ stops_told Shows job state progress plan every n out out' err err' (run.Rejected
 stops_told Shows job state progress plan every n out out' err err' (run.Rejected (input.State f)) made texts h =
     nothing progress err err' h.2
 stops_told Shows job state progress plan every n out out' err err' (run.Rejected (input.Energy f)) made texts h =
-    inl (nothing progress err err' h.2)
+    inl (λ x. x, nothing progress err err' h.2)
 stops_told Shows job state progress plan every n out out' err err' (run.Rejected (input.System f)) made texts h =
     nothing progress err err' h.2
 stops_told Shows job state progress plan every n out out' err err' (run.Rejected input.ForceRange) made texts h =

@@ -5,7 +5,7 @@ use Rattle.command_line.specs.Commands as command
 use Rattle.fallible.specs.Out.{Output}
 use Rattle.runs.specs.Watching.{Report}
 use Rattle.streams.specs.Watched.{AreFirstWatched, AreWatchedTo}
-use Rattle.cli.specs.Actions.{AreSlices, Held, IsHeld, MayBegin, OfFile, OfReports, Work, curve_work, parts_work, replay_work, steps_work, work_of}
+use Rattle.cli.specs.Actions.{AreSlices, Held, IsHeld, MayBegin, OfFile, OfReports, Work, check_work, curve_work, parts_work, replay_work, steps_work, work_of}
 use Rattle.cli.specs.Command.{PrintsLines}
 use Rattle.cli.specs.StreamTexts.{plan_of_replay}
 
@@ -41,8 +41,8 @@ orderly_steps progress n None =
 orderly_steps progress n (Some k) =
     record { texts = λ lines h. inr (h.0 * k, h.1); some = λ bad lines h. absurd bad; whole = λ bad lines h. absurd bad }
 
-orderly_parts : (progress : Bool) (word : List ℕ) (IsAll : ℕ → Type 0) → IsOrderly (parts_work progress word IsAll)
-orderly_parts progress word IsAll =
+orderly_parts : (progress : Bool) (word : List ℕ) (IsAll Rejects : ℕ → Type 0) → IsOrderly (parts_work progress word IsAll Rejects)
+orderly_parts progress word IsAll Rejects =
     record { texts = λ lines h. inl h; some = λ bad lines h. absurd bad; whole = λ bad lines h. absurd bad }
 
 orderly_curve : (held : Held) (out out' : Output) (c : CurveView) → IsOrderly (curve_work held out out' c)
@@ -80,6 +80,7 @@ orderly held out out' (command.Replay r) = orderly_replay held out out' r
 orderly held out out' (command.Observe v table) = orderly_steps v.run.progress (v.run.steps / v.every * v.every) (Some v.every)
 orderly held out out' (command.Check job listing progress) =
     orderly_parts progress (codes "slices") (λ all. OfFile held job (λ text. AreSlices text all))
+    (check_work held job listing progress).rejects
 orderly held out out' (command.Curve c) = orderly_curve held out out' c
 orderly held out out' _ = orderly_steps false 0 None
 

@@ -3,19 +3,24 @@
 --
 -- The specification of commands (`Command`, `CommandFailure`, `Refusals`) consists of statements about tasks and works,
 -- so it has no other table of commands.
-use Rattle.std.specs.Prelude.{◌≡◌, ◌⊎◌, ◌≤◌, ◌*◌, ◌/◌, ℕ, List, [], ◌∷◌, ◌++◌, Bool, false, Option, Some, None, IfSome, codes, decimal, map}
+use Rattle.std.specs.Prelude.{◌≡◌, ◌⊎◌, ◌≤◌, ◌+◌, ◌*◌, ◌/◌, ℕ, List, [], ◌∷◌, ◌++◌, Bool, false, Option, Some, None, IfSome, Result, Ok, Err, codes, decimal, map}
 use Rattle.command_line.specs.Commands.{CommandView, CurveView, ReplayView, RunView, VisitsView}
 use Rattle.command_line.specs.Commands as command
 use Rattle.command_line.specs.declared.commands.Quantity.{Quantity}
 use Rattle.curves.specs.Tables.{curve_parts}
 use Rattle.curves.specs.Writing.{IsCurveCut}
 use Rattle.curves.specs.declared.plans.CurvePlan.{CurvePlan}
+use Rattle.energy_program.specs.Faults.{Refusal}
 use Rattle.fallible.specs.Out.{AppendsBeginning, Output}
 use Rattle.fallible.specs.declared.failure.Failure.TheVariants.{Refused}
 use Rattle.fallible.specs.declared.output.OutFault.{OutFault}
 use Rattle.job.specs.JobText.{IsJobText, limits}
 use Rattle.job.specs.Values.{JobValue}
-use Rattle.potential.specs.Progress.{slices_of}
+use Rattle.kernel_code.specs.Listing.{ParsesAs}
+use Rattle.kernel_code.specs.declared.instructions.Instr.{Instr}
+use Rattle.potential.specs.Energies.{energy_code_of, slope_code_of}
+use Rattle.potential.specs.Progress.{IsPassedUnder, slices_of}
+use Rattle.potential.specs.Verdicts.{IsSlopeKernel, IsVerdictUnder}
 use Rattle.runs.specs.Frames.{ShowsFrame}
 use Rattle.runs.specs.Observations.{ShowsTable}
 use Rattle.runs.specs.Visits.{Showing}
@@ -25,6 +30,8 @@ use Rattle.cli.specs.CurveTexts.{OfTables}
 use Rattle.streams.specs.Replays.{replayed_by}
 use Rattle.streams.specs.Streams.{StreamOutput, shown_by}
 use Rattle.streams.specs.Watched.{AreAllWatched, AreFirstWatched, AreWatchedTo, AreWatchedUpTo}
+use Rattle.verifier.specs.Kernels.{Kernel}
+use Rattle.verifier.specs.declared.faults.VerifyFault.{VerifyFault}
 use Rattle.cli.specs.StreamTexts.{columns_of, plan_of_replay, shows_of}
 
 -- ---- files
@@ -184,6 +191,22 @@ OfJob job Holds = (said : JobValue) × IsJobText limits job said × Holds said
 abbrev pub AreSlices : (job : List ℕ) → ℕ → Type 0
 AreSlices job all = OfJob job (λ j. all ≡ slices_of j)
 
+-- The number n of slices that are reported before this code of a job is rejected: none if there is no code, otherwise the
+-- slices before the verifier's error (`IsPassedUnder`). The verifier has only one answer on the code.
+abbrev pub RejectsAfter : JobValue → (made : Result (List Instr) Refusal) → (n : ℕ) → Type 0
+RejectsAfter j made n = (((r : Refusal) × (made ≡ Err r)) × (n ≡ 0))
+    ⊎ ((code : List Instr) × (made ≡ Ok code) × ((f : VerifyFault) × IsVerdictUnder j code (Err f) × IsPassedUnder j code f n))
+
+-- likewise for the code that `check` verifies: of the listing if one is given, otherwise the job's slope code
+abbrev pub RejectsChecked : (listing : Option (List ℕ)) → JobValue → (n : ℕ) → Type 0
+RejectsChecked None j n = RejectsAfter j (slope_code_of j) n
+RejectsChecked (Some listing) j n = (code : List Instr) × ParsesAs listing (Ok code) × RejectsAfter j (Ok code) n
+
+-- likewise for the codes of `curve`: of the slope; or, after all slices of the slope's accepted code, of the energy itself
+abbrev pub RejectsCurve : JobValue → (n : ℕ) → Type 0
+RejectsCurve j n = RejectsAfter j (slope_code_of j) n
+    ⊎ (((k : Kernel) × IsSlopeKernel j k) × ((more : ℕ) × RejectsAfter j (energy_code_of j) more × (n ≡ slices_of j + more)))
+
 -- the progress line after `made` of all parts of a work, which `word` names
 abbrev pub progress_line : (word : List ℕ) → (all made : ℕ) → List ℕ
 progress_line word all made = codes "pairmd: " ++ decimal made ++ codes " of " ++ decimal all ++ codes " " ++ word ++ codes "\n"
@@ -204,7 +227,7 @@ FirstLines word IsAll done lines =
 
 -- The work of a command, whose progress it may report: whether it does; which are all its progress lines; which those of
 -- its first `done` parts; which those before the write of a text of its output; which those before a state of a stream is
--- read; whether it verifies code; and whether it replays a stream.
+-- read; whether it verifies code; after how many parts it rejects code; and whether it replays a stream.
 pub record Work : Type 1 where
   pub progress : Bool
   pub whole : (lines : List (List ℕ)) → Type 0
@@ -212,6 +235,7 @@ pub record Work : Type 1 where
   pub texts : (lines : List (List ℕ)) → Type 0
   pub read : (lines : List (List ℕ)) → Type 0
   pub verifies : Type 0
+  pub rejects : (done : ℕ) → Type 0
   pub replays : Type 0
 
 -- The progress lines of a run of n steps before it writes a text: those of all steps, or with a text every k steps those
@@ -229,6 +253,7 @@ steps_work progress n every = record {
   texts = TextLines every n;
   read = λ lines. lines ≡ [];
   verifies = ⊥;
+  rejects = λ done. ⊥;
   replays = ⊥;
 }
 
@@ -236,25 +261,34 @@ steps_work progress n every = record {
 abbrev pub visits_work : VisitsView → Work
 visits_work v = steps_work v.run.progress (v.run.steps / v.every * v.every) (Some v.every)
 
--- a work that verifies code, whose parts this word names, and that prints texts after these progress lines
-abbrev pub printing_work : (progress : Bool) → (word : List ℕ) → (AreAll : ℕ → Type 0) → (AreTexts : List (List ℕ) → Type 0) → Work
-printing_work progress word AreAll AreTexts = record {
+-- A work that verifies code, whose parts this word names, and that prints texts after these progress lines. `Rejects` holds
+-- of the number of parts before code is rejected.
+abbrev pub printing_work : (progress : Bool) → (word : List ℕ) → (AreAll Rejects : ℕ → Type 0) → (AreTexts : List (List ℕ) → Type 0)
+    → Work
+printing_work progress word AreAll Rejects AreTexts = record {
   progress = progress;
   whole = AllLines word AreAll;
   part = FirstLines word AreAll;
   texts = AreTexts;
   read = λ lines. lines ≡ [];
   verifies = Unit {0};
+  rejects = Rejects;
   replays = ⊥;
 }
 
 -- a work that verifies code, whose parts this word names, and that prints a text after all parts
-abbrev pub parts_work : (progress : Bool) → (word : List ℕ) → (AreAll : ℕ → Type 0) → Work
-parts_work progress word AreAll = printing_work progress word AreAll (AllLines word AreAll)
+abbrev pub parts_work : (progress : Bool) → (word : List ℕ) → (AreAll Rejects : ℕ → Type 0) → Work
+parts_work progress word AreAll Rejects = printing_work progress word AreAll Rejects (AllLines word AreAll)
+
+-- the statement `Holds` is true of the bytes of the listing, if one is given
+abbrev pub OfListing : Held → (path : Option (List ℕ)) → (Option (List ℕ) → Type 0) → Type 0
+OfListing held None Holds = Holds None
+OfListing held (Some path) Holds = OfFile held path (λ bytes. Holds (Some bytes))
 
 -- the work of `check`, whose parts are the slices that it verifies
-abbrev pub check_work : Held → (job : List ℕ) → (progress : Bool) → Work
-check_work held job progress = parts_work progress (codes "slices") (λ all. OfFile held job (λ text. AreSlices text all))
+abbrev pub check_work : Held → (job : List ℕ) → (listing : Option (List ℕ)) → (progress : Bool) → Work
+check_work held job listing progress = parts_work progress (codes "slices") (λ all. OfFile held job (λ text. AreSlices text all))
+    (λ done. OfFile held job (λ text. OfListing held listing (λ code. OfJob text (λ j. RejectsChecked code j done))))
 
 -- a statement about the lines of reports on a replay of these files
 abbrev pub OfReports : Held → ReplayView → ((job bytes : List ℕ) → List Report → Type 0) → (lines : List (List ℕ)) → Type 0
@@ -280,6 +314,7 @@ replay_work held out out' r = record {
       × ((steps : ℕ) × AreWatchedUpTo (plan_of_replay r) job out bytes now steps steps reports));
   read = OfReports held r (λ job bytes. AreFirstWatched (plan_of_replay r) job out bytes out');
   verifies = ⊥;
+  rejects = λ done. ⊥;
   replays = Unit {0};
 }
 
@@ -292,7 +327,7 @@ AreTableLines j plan before after lines = (f : OutFault) × (n : ℕ) × IsCurve
 -- The work of a curve: the slices of the slope's code, then of the energy's, then the rows. `Of` says of which job and plan.
 abbrev pub tables_work : (progress : Bool) → (Of : (JobValue → CurvePlan → Type 0) → Type 0) → (out out' : Output) → Work
 tables_work progress Of out out' = printing_work progress (codes "parts") (λ all. Of (λ j plan. all ≡ curve_parts j plan))
-    (λ lines. Of (λ j plan. AreTableLines j plan out out' lines))
+    (λ done. Of (λ j plan. RejectsCurve j done)) (λ lines. Of (λ j plan. AreTableLines j plan out out' lines))
 
 -- the work of `curve`
 abbrev pub curve_work : Held → (out out' : Output) → CurveView → Work
@@ -305,6 +340,6 @@ work_of held out out' (command.Trajectory v) = visits_work v
 work_of held out out' (command.States v) = visits_work v
 work_of held out out' (command.Replay r) = replay_work held out out' r
 work_of held out out' (command.Observe v table) = visits_work v
-work_of held out out' (command.Check job listing progress) = check_work held job progress
+work_of held out out' (command.Check job listing progress) = check_work held job listing progress
 work_of held out out' (command.Curve c) = curve_work held out out' c
 work_of held out out' _ = steps_work false 0 None

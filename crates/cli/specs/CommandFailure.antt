@@ -226,10 +226,11 @@ ReportsTexts work before after = PrintsLines work.progress work.texts before aft
 abbrev pub ReportsPart : Work → (before after : Output) → Type 0
 ReportsPart work before after = (done : ℕ) × ReportsDone work done before after
 
--- Progress lines before code is rejected: of a work that verifies code, such as that of `check` or `curve`, those of some
--- number of parts, or none. The other commands printed none.
+-- Progress lines before code is rejected: of a work that verifies code, such as that of `check` or `curve`, exactly those
+-- of the parts before the error. The other commands printed none.
 abbrev pub ReportsCode : Work → (before after : Output) → Type 0
-ReportsCode work before after = (after ≡ before) ⊎ (work.verifies × ReportsPart work before after)
+ReportsCode work before after = ((work.verifies → ⊥) × (after ≡ before))
+    ⊎ (work.verifies × ((done : ℕ) × work.rejects done × ReportsDone work done before after))
 
 -- In a work that replays a stream, `Printed` holds of its progress lines. The other commands printed none.
 abbrev pub ReportsReplayed : Work → (before after : Output) → (Printed : Type 0) → Type 0

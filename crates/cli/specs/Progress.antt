@@ -44,7 +44,7 @@ ReportsBefore work before after (fault.Out o) = ReportsTexts work before after
 ReportsBefore work before after (fault.Rejected (input.Energy f)) = ReportsCode work before after
 ReportsBefore work before after fault.Memory = ReportsMemory work before after
 ReportsBefore work before after (fault.CannotRead path) = ReportsRead work before after
-ReportsBefore work before after (fault.InState number (input.Energy f)) = after ≡ before
+ReportsBefore work before after (fault.InState number (input.Energy f)) = ReportsCode work before after
 ReportsBefore work before after (fault.InState number f) = ReportsState work before after number f
 ReportsBefore work before after (fault.NotOneRun segments) = ReportsReplayed work before after (ReportsAll work before after)
 ReportsBefore work before after _ = after ≡ before
@@ -78,12 +78,13 @@ abbrev pub ReportsIf : (progress : Bool) → (word : List ℕ) → (all : ℕ) �
 ReportsIf true word all before after counts = PrintsProgress word all before after counts
 ReportsIf false word all before after counts = after ≡ before
 
--- the progress lines of a work of this number of parts: all on success, otherwise those of some number of parts
-abbrev pub ReportsParts : {T F : Type 0} → (progress : Bool) → (word : List ℕ) → (all : ℕ) → (before after : Output)
-    → Result T F → Type 0
-ReportsParts progress word all before after result =
+-- the progress lines of a work of this number of parts: all on success, otherwise those of the parts before the failure,
+-- whose number satisfies `IsBefore`
+abbrev pub ReportsParts : {T F : Type 0} → (progress : Bool) → (word : List ℕ) → (all : ℕ) → (IsBefore : F → ℕ → Type 0)
+    → (before after : Output) → Result T F → Type 0
+ReportsParts progress word all IsBefore before after result =
     MatchResult result (λ _. ReportsIf progress word all before after (hundredths all))
-    (λ _. (done : ℕ) × (done ≤ all) × ReportsIf progress word all before after (hundredths_behind all 0 done))
+    (λ f. (done : ℕ) × (done ≤ all) × IsBefore f done × ReportsIf progress word all before after (hundredths_behind all 0 done))
 
 -- The tables of a job's potential were written according to a plan, and the progress lines of all parts; or they weren't
 -- because of the fault, and the lines are those of the parts before it.

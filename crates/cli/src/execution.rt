@@ -151,7 +151,7 @@ fn perform_check<'a, A: Allocator + Copy, F: Files, O: Out, E: Out>(
     requires { (O.output out.old).failed < 2 ^ 64 - 1 }
     ensures performs { Performs (F.held files.old) (F.requested files.old) (F.requested files.new)
         (check_action check.entry.job.now (bytes_if check.entry.listing)) (O.output out.old) (O.output out.new) result }
-    ensures reports { Reports (check_work (F.held files.old) check.entry.job.now check.entry.progress)
+    ensures reports { Reports (check_work (F.held files.old) check.entry.job.now (bytes_if check.entry.listing) check.entry.progress)
         (E.output err.old) (E.output err.new) result }
 {
     match check.listing {
@@ -174,7 +174,7 @@ fn judge_slope<'a, A: Allocator + Copy, F: Files, O: Out, E: Out>(
     requires { (O.output out.old).failed < 2 ^ 64 - 1 }
     ensures performs { Performs (F.held files.old) (F.requested files.old) (F.requested files.new) (check_action job.entry.now None)
         (O.output out.old) (O.output out.new) result }
-    ensures reports { Reports (check_work (F.held files.old) job.entry.now progress) (E.output err.old) (E.output err.new) result }
+    ensures reports { Reports (check_work (F.held files.old) job.entry.now None progress) (E.output err.old) (E.output err.new) result }
 {
     let job = read(alloc, job, files)?;
     verdict_bytes(alloc, &job, None, progress, out, err)
@@ -193,7 +193,8 @@ fn judge_listing<'a, A: Allocator + Copy, F: Files, O: Out, E: Out>(
     requires { (O.output out.old).failed < 2 ^ 64 - 1 }
     ensures performs { Performs (F.held files.old) (F.requested files.old) (F.requested files.new)
         (check_action job.entry.now (Some listing.entry.now)) (O.output out.old) (O.output out.new) result }
-    ensures reports { Reports (check_work (F.held files.old) job.entry.now progress) (E.output err.old) (E.output err.new) result }
+    ensures reports { Reports (check_work (F.held files.old) job.entry.now (Some listing.entry.now) progress)
+        (E.output err.old) (E.output err.new) result }
 {
     let (job, listing) = read_two(alloc, job, listing, files)?;
     verdict_bytes(alloc, &job, Some(listing.as_slice()), progress, out, err)

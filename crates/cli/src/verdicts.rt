@@ -1,7 +1,8 @@
 //! The output of `check`: the verdict on a job's slope code or on a listing.
 
 ghost use Rattle.std.specs.Prelude.{◌≡◌, ◌≤◌, ◌-◌, ◌<◌, ◌^◌, IfErr, IfOk, List, Ok, string_bytes};
-ghost use Rattle.potential.specs.Progress.{slices_of};
+ghost use Rattle.potential.specs.Energies.{slope_code_of};
+ghost use Rattle.potential.specs.Progress.{IsPassedBefore, slices_of};
 ghost use Rattle.potential.specs.Verdicts.{HasNoKernel, HasNoSlopeKernel, IsAccepted, IsSlopeKernel};
 ghost use Rattle.fallible.specs.Failures.{IfRefused};
 ghost use Rattle.job.specs.JobText.{IsJobText, limits};
@@ -10,7 +11,7 @@ ghost use Rattle.job.specs.Views.{job_value};
 ghost use Rattle.kernel_code.specs.Listing.{ParsesAs};
 ghost use Rattle.kernel_code.specs.declared.instructions.Instr.{Instr};
 ghost use Rattle.verifier.specs.Kernels.{Kernel};
-ghost use Rattle.cli.specs.Actions.{AreSlices, parts_work};
+ghost use Rattle.cli.specs.Actions.{AreSlices, OfJob, RejectsChecked, parts_work};
 ghost use Rattle.cli.specs.Performed.{WritesLine, WritesText};
 ghost use Rattle.cli.specs.Progress.{Reports, ReportsParts, word_for};
 ghost use Rattle.cli.specs.declared.progress.Counted.TheVariants as counted;
@@ -67,7 +68,8 @@ pub(crate) fn verdict_bytes<'a, A: Allocator + Copy, O: Out, E: Out>(
     requires { (O.output out.old).failed < 2 ^ 64 - 1 }
     ensures wrote { WritesText (RefusesUnder job.now (RefusesVerdict (bytes_if listing.entry)))
         (IsVerdict job.now (bytes_if listing.entry)) (O.output out.old) (O.output out.new) result }
-    ensures reports { Reports (parts_work progress (word_for counted.Slices) (AreSlices job.now))
+    ensures reports { Reports (parts_work progress (word_for counted.Slices) (AreSlices job.now)
+        (λ done. OfJob job.now (λ j. RejectsChecked (bytes_if listing.entry) j done)))
         (E.output err.old) (E.output err.new) result }
 {
     let known = verdict_read(alloc, job, listing, progress, err)?;
@@ -85,7 +87,8 @@ fn verdict_read<'a, A: Allocator + Copy, E: Out>(
     ensures is { IfOk result (λ known. (said : JobValue) × (k : Kernel) × IsJobText limits job.now said
         × IsJudged said (bytes_if listing.entry) k × (known.0 ≡ k.steps) × (known.1 ≡ k.bound)) }
     ensures refused { IfErr result (RefusesUnder job.now (RefusesVerdict (bytes_if listing.entry))) }
-    ensures reports { Reports (parts_work progress (word_for counted.Slices) (AreSlices job.now))
+    ensures reports { Reports (parts_work progress (word_for counted.Slices) (AreSlices job.now)
+        (λ done. OfJob job.now (λ j. RejectsChecked (bytes_if listing.entry) j done)))
         (E.output err.old) (E.output err.new) result }
 {
     let job = Job::read(alloc, job)?;
@@ -105,7 +108,8 @@ fn verdict_under<'a, A: Allocator + Copy, E: Out>(
     ensures is { IfOk result (λ known. (k : Kernel) × IsJudged (job_value job.now) (bytes_if listing.entry) k
         × (known.0 ≡ k.steps) × (known.1 ≡ k.bound)) }
     ensures refused { IfErr result (RefusesVerdict (bytes_if listing.entry) (job_value job.now)) }
-    ensures reports { Reports (parts_work progress (word_for counted.Slices) (λ all. all ≡ slices_of (job_value job.now)))
+    ensures reports { Reports (parts_work progress (word_for counted.Slices) (λ all. all ≡ slices_of (job_value job.now))
+        (λ done. RejectsChecked (bytes_if listing.entry) (job_value job.now) done))
         (E.output err.old) (E.output err.new) result }
 {
     match listing {
@@ -128,6 +132,7 @@ fn judged_slope<A: Allocator + Copy, E: Out>(
     ensures kernel { IfOk result (IsSlopeKernel (job_value job.now)) }
     ensures refused { IfErr result (λ failure. IfRefused failure (HasNoSlopeKernel (job_value job.now))) }
     ensures reports { ReportsParts progress (word_for counted.Slices) (slices_of (job_value job.now))
+        (λ failure n. IsPassedBefore (job_value job.now) (slope_code_of (job_value job.now)) failure n)
         (E.output err.old) (E.output err.new) result }
 {
     let mut watch = PartLines::new(err, Counted::Slices, slices_in(job), progress);
@@ -162,7 +167,7 @@ fn judged_code<A: Allocator + Copy, E: Out>(
     ensures accepted { IfOk result (IsAccepted (job_value job.now) code) }
     ensures refused { IfErr result (λ failure. IfRefused failure (HasNoKernel (job_value job.now) code)) }
     ensures reports { ReportsParts progress (word_for counted.Slices) (slices_of (job_value job.now))
-        (E.output err.old) (E.output err.new) result }
+        (λ failure n. IsPassedBefore (job_value job.now) (Ok code) failure n) (E.output err.old) (E.output err.new) result }
 {
     let mut watch = PartLines::new(err, Counted::Slices, slices_in(job), progress);
     verdict(alloc, job, code, &mut watch)

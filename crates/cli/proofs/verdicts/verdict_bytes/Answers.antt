@@ -23,5 +23,5 @@ returns-clause-wrote g c =
 
 pub returns-clause-reports : goal.returns-clause-reports
 returns-clause-reports g c =
-    line_told c.write_verdict.result c.args.progress (word_for counted.Slices) (AreSlices c.args.job.now) _ _ _ _ _
+    line_told c.write_verdict.result c.args.progress (word_for counted.Slices) (AreSlices c.args.job.now) _ _ _ _ _ _
     c.in_ok-known.ensures.reports c.write_verdict.ensures
