@@ -1,7 +1,7 @@
 -- Lines of a table, from the texts after each of their parts.
 use Rattle.std.proofs.Common.{◌≡◌, ◌∙◌, ap, append_assoc, ℕ, ℤ, List, [], ◌∷◌, ◌++◌, Some, refl, codes}
 use Rattle.curve_lines.specs.Numbers.{IsBoundText, value_text}
-use Rattle.curve_lines.specs.Rows.{AreColumns, IsRowText, energy_name, mark_of, slope_name}
+use Rattle.curve_lines.specs.Rows.{AreColumns, IsRowText, energy_name, jumps_of, large_of, marks_of, slope_name}
 use Rattle.curve_lines.specs.Summaries.{AreNamed, IsGreatestText, IsLastLine, IsNamed, without_text}
 use Rattle.curve_lines.specs.declared.columns.CurveColumns.{CurveColumns}
 use Rattle.curve_lines.specs.declared.columns.CurveColumns.TheVariants.{All}
@@ -13,17 +13,19 @@ pub joined : (t0 t1 t2 a b : List ℕ) → t1 ≡ t0 ++ a → t2 ≡ t1 ++ b →
 joined t0 t1 t2 a b first second = second ∙ ap (λ t. t ++ b) first ∙ append_assoc t0 a b
 
 -- the line of a row
-pub row_text : (bits : ℕ) (columns : CurveColumns) (row : Row) (t0 t1 t2 t3 t4 t5 end : List ℕ) → t1 ≡ t0 ++ value_text bits row.distance
-    → t2 ≡ t1 ++ (32 ∷ []) → (n : List ℕ) × AreColumns bits columns row n × (t3 ≡ t2 ++ n) → t4 ≡ t3 ++ end → end ≡ mark_of columns row
-    → t5 ≡ t4 ++ (10 ∷ []) → (line : List ℕ) × IsRowText bits columns row line × (t5 ≡ t0 ++ line)
-row_text bits columns row t0 t1 t2 t3 t4 t5 end value blank e put is last =
+pub row_text : (bits : ℕ) (columns : CurveColumns) (row : Row) (t0 t1 t2 t3 t4 t5 t6 jumps large : List ℕ) → t1 ≡ t0 ++ value_text bits row.distance
+    → t2 ≡ t1 ++ (32 ∷ []) → (n : List ℕ) × AreColumns bits columns row n × (t3 ≡ t2 ++ n) → t4 ≡ t3 ++ jumps → jumps ≡ jumps_of columns row
+    → t5 ≡ t4 ++ large → large ≡ large_of columns row → t6 ≡ t5 ++ (10 ∷ [])
+    → (line : List ℕ) × IsRowText bits columns row line × (t6 ≡ t0 ++ line)
+row_text bits columns row t0 t1 t2 t3 t4 t5 t6 jumps large value blank e put is more also last =
     let first : List ℕ = value_text bits row.distance in
-    let after : List ℕ = mark_of columns row ++ (10 ∷ []) in
+    let after : List ℕ = marks_of columns row ++ (10 ∷ []) in
     let rest : List ℕ = e.0 ++ after in
-    let t5_is : t5 ≡ t3 ++ after = joined t3 t4 t5 (mark_of columns row) (10 ∷ []) (put ∙ ap (λ m. t3 ++ m) is) last in (
+    let t5_is : t5 ≡ t3 ++ marks_of columns row = joined t3 t4 t5 (jumps_of columns row) (large_of columns row) (put ∙ ap (λ m. t3 ++ m) is) (more ∙ ap (λ m. t4 ++ m) also) in
+    let t6_is : t6 ≡ t3 ++ after = joined t3 t5 t6 (marks_of columns row) (10 ∷ []) t5_is last in (
       first ++ (32 ∷ rest),
       (e.0, e.1, refl),
-      joined t0 t1 t5 first (32 ∷ rest) value (joined t1 t2 t5 (32 ∷ []) rest blank (joined t2 t3 t5 e.0 after e.2 t5_is)),
+      joined t0 t1 t6 first (32 ∷ rest) value (joined t1 t2 t6 (32 ∷ []) rest blank (joined t2 t3 t6 e.0 after e.2 t6_is)),
     )
 
 -- a bound and its distance

@@ -1,6 +1,6 @@
--- The lines of a table's rows: values with bounds on their errors, a mark if a bound is large, and a line for each error
+-- The lines of a table's rows: values with bounds on their errors, marks if a bound is large or a jump, and a line for each error
 -- without a bound.
-use Rattle.std.specs.Prelude.{◌≡◌, ◌<◌, ◌*◌, ℕ, nat_lt, Bool, true, false, ℤ, unsigned_abs, List, [], ◌∷◌, ◌++◌, Option, Some, None, codes}
+use Rattle.std.specs.Prelude.{◌≡◌, ◌*◌, ℕ, nat_lt, Bool, true, false, ℤ, unsigned_abs, List, [], ◌∷◌, ◌++◌, Option, Some, None, codes}
 use Rattle.curve_lines.specs.Numbers.{IsBoundText, value_text}
 use Rattle.curve_lines.specs.declared.columns.CurveColumns.{CurveColumns}
 use Rattle.curve_lines.specs.declared.columns.CurveColumns.TheVariants.{All, Energy, Slope}
@@ -24,23 +24,44 @@ abbrev pub is_large : (value : ℤ) → (bound : Option ℕ) → Bool
 is_large value None = false
 is_large value (Some bound) = nat_lt (256 * unsigned_abs value) (1000 * bound)
 
--- the mark at the end of a row, by whether the bounds of the energy and of the slope are large
-abbrev pub mark : (energy slope : Bool) → List ℕ
-mark true true = codes " # large energy-error slope-error"
-mark true false = codes " # large energy-error"
-mark false true = codes " # large slope-error"
-mark false false = []
+-- whether a value's bound is large, and not because it is a jump
+abbrev pub is_only_large : (value : ℤ) → (bound : Option ℕ) → (jumps : Bool) → Bool
+is_only_large value bound true = false
+is_only_large value bound false = is_large value bound
 
--- the mark of a row, for the columns that it has
-abbrev pub mark_of : CurveColumns → Row → List ℕ
-mark_of All row = mark (is_large row.energy row.energy_error) (is_large row.slope row.slope_error)
-mark_of Energy row = mark (is_large row.energy row.energy_error) false
-mark_of Slope row = mark false (is_large row.slope row.slope_error)
+-- the mark of jumps, by whether the energy and the slope have one
+abbrev pub jump_mark : (energy slope : Bool) → List ℕ
+jump_mark true true = codes " # jump energy-error slope-error"
+jump_mark true false = codes " # jump energy-error"
+jump_mark false true = codes " # jump slope-error"
+jump_mark false false = []
 
--- the line of a row: its distance, its other columns, and its mark
+-- the mark of large bounds, by whether the energy and the slope have one
+abbrev pub large_mark : (energy slope : Bool) → List ℕ
+large_mark true true = codes " # large energy-error slope-error"
+large_mark true false = codes " # large energy-error"
+large_mark false true = codes " # large slope-error"
+large_mark false false = []
+
+-- the marks at the end of a row, for the columns that it has
+abbrev pub jumps_of : CurveColumns → Row → List ℕ
+jumps_of All row = jump_mark row.energy_jumps row.slope_jumps
+jumps_of Energy row = jump_mark row.energy_jumps false
+jumps_of Slope row = jump_mark false row.slope_jumps
+
+abbrev pub large_of : CurveColumns → Row → List ℕ
+large_of All row = large_mark (is_only_large row.energy row.energy_error row.energy_jumps)
+    (is_only_large row.slope row.slope_error row.slope_jumps)
+large_of Energy row = large_mark (is_only_large row.energy row.energy_error row.energy_jumps) false
+large_of Slope row = large_mark false (is_only_large row.slope row.slope_error row.slope_jumps)
+
+abbrev pub marks_of : CurveColumns → Row → List ℕ
+marks_of columns row = jumps_of columns row ++ large_of columns row
+
+-- the line of a row: its distance, its other columns, and its marks
 abbrev pub IsRowText : (bits : ℕ) → CurveColumns → Row → List ℕ → Type 0
 IsRowText bits columns row line = (text : List ℕ) × AreColumns bits columns row text
-    × (line ≡ value_text bits row.distance ++ (32 ∷ (text ++ (mark_of columns row ++ 10 ∷ []))))
+    × (line ≡ value_text bits row.distance ++ (32 ∷ (text ++ (marks_of columns row ++ 10 ∷ []))))
 
 -- rows, and the text of their lines
 pub data AreRowTexts (bits : ℕ) (columns : CurveColumns) : List Row → List ℕ → Type 0 where

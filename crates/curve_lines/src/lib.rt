@@ -9,4 +9,4 @@ mod summaries;
 
 pub use bodies::Body;
 pub use columns::CurveColumns;
-pub use rows::Row;
+pub use rows::{Row, is_large};

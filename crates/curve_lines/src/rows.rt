@@ -1,7 +1,7 @@
 //! Lines of rows: values with bounds on their errors, and a line for each error without a bound.
 ghost use Rattle.std.specs.Prelude.{◌≡◌, ◌++◌, ℕ, List, None, IfOk};
 ghost use Rattle.fixed.specs.Fractions.{bits_of};
-ghost use Rattle.curve_lines.specs.Rows.{AreColumns, IsRowText, IsWithError, is_large, mark, mark_of, missing_line, missing_lines};
+ghost use Rattle.curve_lines.specs.Rows.{AreColumns, IsRowText, IsWithError, is_large, is_only_large, jump_mark, jumps_of, large_mark, large_of, missing_line, missing_lines};
 
 use crate::columns::CurveColumns;
 use crate::numbers::{put_bound_or_dash, put_value};
@@ -17,10 +17,14 @@ pub struct Row {
     pub energy: Fx,
     /// The bound on the energy's error, in units of 2^-(bits + 8); `None` if no bound is found.
     pub energy_error: Option<u64>,
+    /// Whether the energy's bound is large because the energy jumps.
+    pub energy_jumps: bool,
     /// The slope in kJ/mol/nm.
     pub slope: Fx,
     /// The bound on the slope's error, in units of 2^-(bits + 8); `None` if no bound is found.
     pub slope_error: Option<u64>,
+    /// Whether the slope's bound is large because the slope jumps.
+    pub slope_jumps: bool,
 }
 
 // Appends a value, a blank and the bound of its error.
@@ -59,8 +63,8 @@ fn put_columns<A: Allocator>(
     }
 }
 
-// Whether a bound exceeds a thousandth of a value's magnitude.
-fn is_large(value: Fx, bound: Option<u64>) -> bool
+/// Whether the bound of a value's error, in units of 2^-(bits + 8), exceeds a thousandth of the value's magnitude.
+pub fn is_large(value: Fx, bound: Option<u64>) -> bool
     ensures { result ≡ is_large value bound }
 {
     match bound {
@@ -69,9 +73,28 @@ fn is_large(value: Fx, bound: Option<u64>) -> bool
     }
 }
 
-// The mark at the end of a row, by whether its bounds are large.
-fn mark(energy: bool, slope: bool) -> &'static [u8]
-    ensures { result.now ≡ mark energy slope }
+// Whether a value's bound is large, and not because it is a jump.
+fn is_only_large(value: Fx, bound: Option<u64>, jumps: bool) -> bool
+    ensures { result ≡ is_only_large value bound jumps }
+{
+    if jumps { false } else { is_large(value, bound) }
+}
+
+// The mark of jumps, by whether the energy and the slope have one.
+fn jump_mark(energy: bool, slope: bool) -> &'static [u8]
+    ensures { result.now ≡ jump_mark energy slope }
+{
+    match (energy, slope) {
+        (true, true) => b" # jump energy-error slope-error",
+        (true, false) => b" # jump energy-error",
+        (false, true) => b" # jump slope-error",
+        (false, false) => b"",
+    }
+}
+
+// The mark of large bounds, by whether the energy and the slope have one.
+fn large_mark(energy: bool, slope: bool) -> &'static [u8]
+    ensures { result.now ≡ large_mark energy slope }
 {
     match (energy, slope) {
         (true, true) => b" # large energy-error slope-error",
@@ -81,16 +104,27 @@ fn mark(energy: bool, slope: bool) -> &'static [u8]
     }
 }
 
-// The mark of a row, for its columns.
-fn mark_of(columns: CurveColumns, row: &Row) -> &'static [u8]
-    ensures { result.now ≡ mark_of columns row.now }
+// The mark of a row's jumps, for its columns.
+fn jumps_of(columns: CurveColumns, row: &Row) -> &'static [u8]
+    ensures { result.now ≡ jumps_of columns row.now }
 {
-    let energy = is_large(row.energy, row.energy_error);
-    let slope = is_large(row.slope, row.slope_error);
     match columns {
-        CurveColumns::All => mark(energy, slope),
-        CurveColumns::Energy => mark(energy, false),
-        CurveColumns::Slope => mark(false, slope),
+        CurveColumns::All => jump_mark(row.energy_jumps, row.slope_jumps),
+        CurveColumns::Energy => jump_mark(row.energy_jumps, false),
+        CurveColumns::Slope => jump_mark(false, row.slope_jumps),
+    }
+}
+
+// The mark of a row's large bounds, for its columns.
+fn large_of(columns: CurveColumns, row: &Row) -> &'static [u8]
+    ensures { result.now ≡ large_of columns row.now }
+{
+    let energy = is_only_large(row.energy, row.energy_error, row.energy_jumps);
+    let slope = is_only_large(row.slope, row.slope_error, row.slope_jumps);
+    match columns {
+        CurveColumns::All => large_mark(energy, slope),
+        CurveColumns::Energy => large_mark(energy, false),
+        CurveColumns::Slope => large_mark(false, slope),
     }
 }
 
@@ -107,7 +141,8 @@ pub(crate) fn put_row<A: Allocator>(
     put_value(text, frac, row.distance)?;
     text.push(b' ')?;
     put_columns(text, frac, columns, row)?;
-    text.extend_from_slice(mark_of(columns, row))?;
+    text.extend_from_slice(jumps_of(columns, row))?;
+    text.extend_from_slice(large_of(columns, row))?;
     text.push(b'\n')?;
     Ok(())
 }

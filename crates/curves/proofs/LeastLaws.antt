@@ -1,5 +1,5 @@
 -- The bounds of several walks, as loops compute them.
-use Rattle.std.proofs.Common.{◌≡◌, ℕ, zero, suc, ◌-◌, ◌<◌, false, List, [], ◌∷◌, drop, length, map, get_or, Option, Some, None, refl, sym, ap, subst, ◌∙◌, arith}
+use Rattle.std.proofs.Common.{◌≡◌, ℕ, zero, suc, ◌-◌, ◌<◌, false, List, [], ◌∷◌, drop, length, map, get_or, Option, refl, sym, ap, subst, ◌∙◌, arith}
 use Rattle.energy_program.specs.Programs.{Trees}
 use Rattle.error_bounds.specs.Approximations.{Approximation, Outcomes}
 use Rattle.formula_bounds.specs.Entries.{Entry}

@@ -1,5 +1,5 @@
 -- Parts of a range while the worst is looked for, and while a range is halved.
-use Rattle.std.proofs.Common.{◌≡◌, ℕ, zero, suc, ◌<◌, ◌≤◌, ◌+◌, ℤ, pos, ◌+ℤ◌, ◌-ℤ◌, ◌≤ℤ◌, ◌<ℤ◌, Bool, true, false, ◌||◌, List, [], ◌∷◌, ◌++◌, length, take, drop, get_or, slice_index_or, slice_set, Option, Some, None, slice_get, refl, sym, subst, ap, ◌∙◌, ◌⊎◌, inl, inr, arith}
+use Rattle.std.proofs.Common.{◌≡◌, ℕ, zero, suc, ◌<◌, ◌≤◌, ◌+◌, ℤ, pos, ◌+ℤ◌, ◌-ℤ◌, ◌≤ℤ◌, ◌<ℤ◌, Bool, true, false, ◌||◌, List, [], ◌∷◌, ◌++◌, length, take, drop, get_or, slice_set, Option, Some, None, slice_get, refl, sym, subst, ap, ◌∙◌, ◌⊎◌, inl, inr, arith}
 use Rattle.std.proofs.lemmas.Bool.{both_ways}
 use Rattle.std.proofs.lemmas.Bool.Decides.{nat_tests}
 use Rattle.std.proofs.lemmas.Int.{by_lt_z, ints}
@@ -11,8 +11,9 @@ use Rattle.interval_domain.specs.Ranges.{Range, range}
 use Rattle.interval_domain.specs.Spans.{AreHalves}
 use Rattle.interval_domain.specs.Views.{span_range}
 use Rattle.interval_domain.specs.declared.span.Span.{Span}
-use Rattle.curves.specs.Slices.{AreHalved, BoundsView, IsGreatest, IsNext, IsToHalve, IsWorst, Part, at_ends, bounds_at, bounds_on, greater_bounds, halved_at, in_column, is_worse, middle, part_on, turn_of}
+use Rattle.curves.specs.Slices.{AreHalved, AreOfWorst, AreWorstOver, BoundsView, IsNext, IsToHalve, IsWorst, Part, at_ends, bounds_at, bounds_on, bounds_view, greater_bounds, halved_at, in_column, is_worse, middle, part_on, turn_of}
 use Rattle.curves.specs.declared.slices.Column.{Column}
+use Rattle.curves.specs.declared.slices.Column.TheVariants.{Energy, Slope}
 
 -- ---- the order of bounds
 
@@ -276,3 +277,24 @@ module _ (bits : ℕ) (program : Trees) (others : List Constant) where
         subst (λ (m : ℕ). AreHalved bits program others r m new b) e
         (subst (λ (l : List Part). AreHalved bits program others r (suc n) l b) (sym en)
         (subst (AreHalved bits program others r (suc n) (halved_at bits program others parts number p)) (sym eb) (AreHalved.halved are few next its)))
+
+    -- bounds when halving has ended
+    pub worst_over : (n : ℕ) (parts seen : List Part) (tried : BoundsView) (e s : Option ℕ) (of_energy of_slope : Range) → seen ≡ parts
+        → AreHalved bits program others r n parts tried → IsNext n parts tried None ⊎ (n ≡ 256) → AreOfWorst Energy seen e of_energy
+        → AreOfWorst Slope seen s of_slope → AreWorstOver bits program others r (bounds_view e s) of_energy of_slope
+    worst_over n parts seen tried e s of_energy of_slope same are ended ew sw =
+        let energy : AreOfWorst Energy parts e of_energy = subst (λ (l : List Part). AreOfWorst Energy l e of_energy) same ew in
+        let slope : AreOfWorst Slope parts s of_slope = subst (λ (l : List Part). AreOfWorst Slope l s of_slope) same sw in
+        record {
+          over = record {
+            halvings = n;
+            parts = parts;
+            tried = tried;
+            are_halved = are;
+            ended = ended;
+            energy = (energy.0, energy.1, energy.2, energy.3);
+            slope = (slope.0, slope.1, slope.2, slope.3);
+          };
+          energy_is = energy.4;
+          slope_is = slope.4;
+        }

@@ -1,5 +1,5 @@
 -- Values of a job's potential at a distance, its refusals, the inputs of a pair of types, and the texts of tables.
-use Rattle.std.proofs.Common.{◌≡◌, ◌∙◌, ℕ, ◌<◌, ◌≤◌, ◌*◌, ◌/◌, List, [], ◌∷◌, ◌++◌, length, map, subst, sym, refl, arith, ap, inr, ℤ, IfOk, Some, Result, zero, suc, IsTrue, slice_index_or}
+use Rattle.std.proofs.Common.{◌≡◌, ◌∙◌, ℕ, ◌<◌, ◌≤◌, ◌*◌, ◌/◌, Bool, ◌&&◌, List, [], ◌∷◌, ◌++◌, length, map, subst, sym, refl, arith, ap, inr, ℤ, IfOk, Some, Result, zero, suc, IsTrue, slice_index_or}
 use Rattle.std.proofs.lemmas.List.{length-map}
 use Rattle.std.proofs.lemmas.Nat.{mul-le}
 use Rattle.std.proofs.Math.Nat.{div-le_of_le-mul}
@@ -27,9 +27,13 @@ use Rattle.potential.specs.declared.faults.EnergyFault.{EnergyFault}
 use Rattle.verifier.specs.Kernels.{Kernel}
 use Rattle.curves.specs.Potentials.{IsPotentialOf}
 use Rattle.curve_lines.specs.Bodies.{BodyView, IsBodyText}
-use Rattle.curves.specs.Slices.{AreBoundsOver, BoundsView}
+use Rattle.curve_lines.specs.Rows.{is_large}
+use Rattle.interval_domain.specs.Ranges.{Range}
+use Rattle.curves.specs.Slices.{AreBoundsOver, AreWorstOver, BoundsView, in_column, jumps_over}
+use Rattle.curves.specs.declared.slices.Column.{Column}
+use Rattle.curves.specs.declared.slices.Column.TheVariants.{Energy, Slope}
 use Rattle.curves.specs.SoFar.{HasBody}
-use Rattle.curves.specs.Tables.{AreBothTables, AreRows, HasNoCurve, IsRow, IsTable, IsTableBody, OfPotential, constants_of, distance_of, distances_of, names_text, others_of, pair_line, table_text}
+use Rattle.curves.specs.Tables.{AreBothTables, AreRows, HasNoCurve, IsRow, IsTable, IsTableBody, OfPotential, all_distances, constants_of, distance_of, distances_of, names_text, others_of, pair_line, table_text}
 use Rattle.curves.specs.declared.plans.CurvePlan.{CurvePlan}
 use Rattle.curves.specs.declared.potentials.Potential.{Potential}
 
@@ -94,20 +98,49 @@ inputs_are j a b r =
 
 -- ---- rows
 
--- the parts of a row
-pub is_row : (j : JobValue) (program : Trees) (points a b i : ℕ) (query : Query) (distance energy slope : ℤ) (others : List Constant) (bounds : BoundsView)
-    → query ≡ record { a = a; b = b; r = distance } → distance ≡ distance_of j points i
-    → value_of (bits_of j.frac) (inputs_of (table_of j) query.a query.b query.r) (substituted program.0 program.1) ≡ Some energy
-    → slope_of (bits_of j.frac) (inputs_of (table_of j) query.a query.b query.r) (substituted program.0 program.1) ≡ Some slope
-    → others ≡ others_of j a b → AreBoundsOver (bits_of j.frac) program others (distances_of j points i) bounds
-    → IsRow j program points a b i (record { distance = distance; energy = energy; energy_error = bounds.energy; slope = slope; slope_error = bounds.slope })
-is_row j program points a b i query distance energy slope others bounds same at e s these over =
-    record {
-      distance = at;
-      energy = subst (λ (x : Query). value_of (bits_of j.frac) (inputs_of (table_of j) x.a x.b x.r) (substituted program.0 program.1) ≡ Some energy) same e;
-      slope = subst (λ (x : Query). slope_of (bits_of j.frac) (inputs_of (table_of j) x.a x.b x.r) (substituted program.0 program.1) ≡ Some slope) same s;
-      bounds = subst (λ xs. AreBoundsOver (bits_of j.frac) program xs (distances_of j points i) bounds) these over;
-    }
+module _ (j : JobValue) (program : Trees) (points i : ℕ) (bounds : BoundsView) where
+  -- whether a column's bound is large and a jump, if the worst part has these distances
+  abbrev jump : (others : List Constant) → Column → (value : ℤ) → Range → Bool
+  jump others column value r =
+      is_large value (in_column column bounds) && jumps_over (bits_of j.frac) program others (all_distances j) column r
+
+  -- bounds over the distances of a row, and whether they are large and jumps
+  record AreMarked (energy slope : ℤ) (energy_jumps slope_jumps : Bool) (others : List Constant) : Type 0 where
+    over : AreBoundsOver (bits_of j.frac) program others (distances_of j points i) bounds
+    energy_is : energy_jumps ≡ jump others Energy energy over.energy.1.range
+    slope_is : slope_jumps ≡ jump others Slope slope over.slope.1.range
+
+  -- the parts of a row
+  pub is_row : (a b : ℕ) (query : Query) (distance energy slope : ℤ) (energy_jumps slope_jumps : Bool) (others : List Constant)
+      (of_energy of_slope : Range) → query ≡ record { a = a; b = b; r = distance } → distance ≡ distance_of j points i
+      → value_of (bits_of j.frac) (inputs_of (table_of j) query.a query.b query.r) (substituted program.0 program.1) ≡ Some energy
+      → slope_of (bits_of j.frac) (inputs_of (table_of j) query.a query.b query.r) (substituted program.0 program.1) ≡ Some slope
+      → others ≡ others_of j a b → AreWorstOver (bits_of j.frac) program others (distances_of j points i) bounds of_energy of_slope
+      → energy_jumps ≡ jump others Energy energy of_energy → slope_jumps ≡ jump others Slope slope of_slope
+      → IsRow j program points a b i (record {
+        distance = distance;
+        energy = energy;
+        energy_error = bounds.energy;
+        energy_jumps = energy_jumps;
+        slope = slope;
+        slope_error = bounds.slope;
+        slope_jumps = slope_jumps;
+      })
+  is_row a b query distance energy slope energy_jumps slope_jumps others of_energy of_slope same at e s these worst ej sj =
+      let marked : AreMarked energy slope energy_jumps slope_jumps others = record {
+        over = worst.over;
+        energy_is = ej ∙ ap (jump others Energy energy) worst.energy_is;
+        slope_is = sj ∙ ap (jump others Slope slope) worst.slope_is;
+      } in
+      let are : AreMarked energy slope energy_jumps slope_jumps (others_of j a b) = subst (AreMarked energy slope energy_jumps slope_jumps) these marked in
+      record {
+        distance = at;
+        energy = subst (λ (x : Query). value_of (bits_of j.frac) (inputs_of (table_of j) x.a x.b x.r) (substituted program.0 program.1) ≡ Some energy) same e;
+        slope = subst (λ (x : Query). slope_of (bits_of j.frac) (inputs_of (table_of j) x.a x.b x.r) (substituted program.0 program.1) ≡ Some slope) same s;
+        bounds = are.over;
+        energy_jumps = are.energy_is;
+        slope_jumps = are.slope_is;
+      }
 
 -- ---- tables
 

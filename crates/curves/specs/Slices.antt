@@ -1,5 +1,6 @@
 -- Bounds on the errors of an energy and of its slope over a range of distances.
-use Rattle.std.specs.Prelude.{◌≡◌, ◌⊎◌, ◌<◌, ◌/◌, ◌%◌, ◌==◌, ℕ, suc, nat_le, nat_lt, int_le, max, min, ℤ, pos, ◌+ℤ◌, ◌-ℤ◌, ◌*ℤ◌, unsigned_abs, Bool, true, false, ◌||◌, if◌then◌else◌, List, [], ◌∷◌, ◌++◌, take, drop, map, slice_get, Option, Some, None, IfSome}
+use Rattle.std.specs.Prelude.{◌≡◌, ◌⊎◌, ◌<◌, ◌/◌, ◌%◌, ◌==◌, ℕ, suc, nat_le, nat_lt, int_le, max, min, ℤ, pos, ◌+ℤ◌, ◌-ℤ◌, ◌*ℤ◌, ◌*◌, unsigned_abs, Bool, true, false, ◌||◌, if◌then◌else◌, List, [], ◌∷◌, ◌++◌, take, drop, map, slice_get, Option, Some, None, IfSome}
+use Rattle.std.specs.Int.{int_max, int_min}
 use Rattle.energy_program.specs.Programs.{Trees}
 use Rattle.energy_program.specs.Tree.{substituted}
 use Rattle.energy_program.specs.Value.{value_of}
@@ -161,6 +162,32 @@ abbrev pub IsGreatest : Column → List Part → BoundsView → Type 0
 IsGreatest column parts b = (number : ℕ) × (worst : Part) × IsWorst column parts number worst
     × (in_column column b ≡ in_column column worst.bounds)
 
+-- a bound and a range of distances are those of a column's worst part
+abbrev pub AreOfWorst : Column → List Part → (bound : Option ℕ) → Range → Type 0
+AreOfWorst column parts bound r = (number : ℕ) × (worst : Part) × IsWorst column parts number worst
+    × (bound ≡ in_column column worst.bounds) × (r ≡ worst.range)
+
+-- ---- jumps
+
+-- whether a bound is above four times the greatest bound beside it
+abbrev pub is_local : (bound beside : Option ℕ) → Bool
+is_local (Some bound) (Some beside) = nat_lt (4 * beside) bound
+is_local _ _ = false
+
+-- the first 16 distances of a range, and the last 16; all, if it has no more
+abbrev pub front_of : Range → Range
+front_of r = range r.low (int_min r.high (r.low +ℤ pos 15))
+
+abbrev pub back_of : Range → Range
+back_of r = range (int_max r.low (r.high -ℤ pos 15)) r.high
+
+-- the distances 1024 below and above a range, or the ends of the domain if these are closer
+abbrev pub below : (domain r : Range) → ℤ
+below domain r = int_max domain.low (r.low -ℤ pos 1024)
+
+abbrev pub above : (domain r : Range) → ℤ
+above domain r = int_min domain.high (r.high +ℤ pos 1024)
+
 module _ (bits : ℕ) (program : Trees) (others : List Constant) where
   -- a range as a part
   abbrev pub part_on : Range → Part
@@ -198,6 +225,23 @@ module _ (bits : ℕ) (program : Trees) (others : List Constant) where
     pub ended : IsNext halvings parts tried None ⊎ (halvings ≡ 256)
     pub energy : IsGreatest Energy parts b
     pub slope : IsGreatest Slope parts b
+
+  -- bounds over a range of distances, and the ranges of the worst parts of the energy and of the slope
+  pub record AreWorstOver (r : Range) (b : BoundsView) (energy slope : Range) : Type 0 where
+    pub over : AreBoundsOver r b
+    pub energy_is : energy ≡ over.energy.1.range
+    pub slope_is : slope ≡ over.slope.1.range
+
+  -- whether a column's bound on a range is above four times the greatest of the bounds at the distances beside it
+  abbrev pub is_local_on : (domain : Range) → Column → Range → Bool
+  is_local_on domain column r =
+      is_local (in_column column (bounds_on bits program others r))
+      (in_column column (greater_bounds (bounds_at (below domain r)) (bounds_at (above domain r))))
+
+  -- Whether a column jumps in its worst part, which is this range: whether the bound on the part's first or last distances
+  -- is far above the bounds at distances beside them, in the domain of a potential.
+  abbrev pub jumps_over : (domain : Range) → Column → Range → Bool
+  jumps_over domain column r = is_local_on domain column (front_of r) || is_local_on domain column (back_of r)
 
 -- ---- the meaning of bounds
 

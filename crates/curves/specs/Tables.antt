@@ -1,6 +1,6 @@
 -- The text that `curve` prints for a job: a table for each pair of types, or for one pair, with the potential as it is
 -- computed, and bounds on its distance from the formula over exact numbers.
-use Rattle.std.specs.Prelude.{◌≡◌, ◌≢◌, ◌⊎◌, ◌<◌, ◌+◌, ◌*◌, ◌/◌, ◌==◌, ℕ, zero, suc, if◌then◌else◌, ℤ, pos, ◌+ℤ◌, ◌-ℤ◌, unsigned_abs, List, [], ◌++◌, length, map, slice_get, slice_index_or, Option, Some, None, IfSome, Ok, codes}
+use Rattle.std.specs.Prelude.{◌≡◌, ◌≢◌, ◌⊎◌, ◌<◌, ◌+◌, ◌*◌, ◌/◌, ◌==◌, ◌&&◌, ℕ, zero, suc, if◌then◌else◌, ℤ, pos, ◌+ℤ◌, ◌-ℤ◌, unsigned_abs, List, [], ◌++◌, length, map, slice_get, slice_index_or, Option, Some, None, IfSome, Ok, codes}
 use Rattle.std.specs.Int.{int_max}
 use Rattle.derivative.specs.DualNumbers.{IsScoped}
 use Rattle.derivative.specs.Slope.{slope_of}
@@ -20,10 +20,12 @@ use Rattle.potential.specs.Verdicts.{HasNoSlopeKernel, IsSlopeKernel}
 use Rattle.potential.specs.declared.faults.EnergyFault.{EnergyFault}
 use Rattle.verifier.specs.Kernels.{Kernel}
 use Rattle.curve_lines.specs.Bodies.{IsBodyText}
+use Rattle.curve_lines.specs.Rows.{is_large}
 use Rattle.curve_lines.specs.declared.columns.CurveColumns.{CurveColumns}
 use Rattle.curve_lines.specs.declared.columns.CurveColumns.TheVariants.{All, Energy, Slope}
 use Rattle.curve_lines.specs.declared.rows.Row.{Row}
-use Rattle.curves.specs.Slices.{AreBoundsOver, BoundsView, bounds_view}
+use Rattle.curves.specs.Slices.{AreBoundsOver, BoundsView, bounds_view, jumps_over}
+use Rattle.curves.specs.declared.slices.Column.TheVariants as column
 use Rattle.curves.specs.declared.plans.CurvePlan.{CurvePlan}
 
 -- ---- distances
@@ -41,6 +43,10 @@ distances_of j points i =
     (if i == points then distance_of j points i
     else int_max (distance_of j points i) (distance_of j points (suc i) -ℤ pos 1))
 
+-- the distances of all rows: from the core to the last one below the cutoff
+abbrev pub all_distances : JobValue → Range
+all_distances j = range j.core (j.cutoff -ℤ pos 1)
+
 -- ---- rows
 
 -- the parameters of a type of the job, as they were read
@@ -56,12 +62,17 @@ abbrev pub bounds_in : Row → BoundsView
 bounds_in row = bounds_view row.energy_error row.slope_error
 
 -- Row i of the rows from 0 to n for the types a and b: the values of the energy and of its slope, as the program
--- computes them, at the row's distance, and bounds on their errors at all distances that the row covers.
+-- computes them, at the row's distance, and bounds on their errors at all distances that the row covers. Of a large bound
+-- the row has whether it is a jump.
 pub record IsRow (j : JobValue) (program : Trees) (points a b i : ℕ) (row : Row) : Type 0 where
   pub distance : row.distance ≡ distance_of j points i
   pub energy : value_of (bits_of j.frac) (inputs_of (table_of j) a b row.distance) (substituted program.0 program.1) ≡ Some row.energy
   pub slope : slope_of (bits_of j.frac) (inputs_of (table_of j) a b row.distance) (substituted program.0 program.1) ≡ Some row.slope
   pub bounds : AreBoundsOver (bits_of j.frac) program (others_of j a b) (distances_of j points i) (bounds_in row)
+  pub energy_jumps : row.energy_jumps ≡ (is_large row.energy row.energy_error
+      && jumps_over (bits_of j.frac) program (others_of j a b) (all_distances j) column.Energy bounds.energy.1.range)
+  pub slope_jumps : row.slope_jumps ≡ (is_large row.slope row.slope_error
+      && jumps_over (bits_of j.frac) program (others_of j a b) (all_distances j) column.Slope bounds.slope.1.range)
 
 -- the rows from 0 to n of the table for the types a and b, in order
 pub record AreRows (j : JobValue) (program : Trees) (points a b : ℕ) (rows : List Row) : Type 0 where

@@ -1,5 +1,5 @@
 //! Rows of a table: the potential at a distance as it is computed, and bounds on its errors up to the next row.
-ghost use Rattle.std.specs.Prelude.{◌≡◌, ◌≤◌, ◌<◌, ◌*◌, ◌/◌, ◌++◌, IfOk, length, pos, unsigned_abs, ◌+ℤ◌, ◌-ℤ◌, ◌≤ℤ◌, ◌<ℤ◌};
+ghost use Rattle.std.specs.Prelude.{◌≡◌, ◌&&◌, ◌≤◌, ◌<◌, ◌*◌, ◌/◌, ◌++◌, IfOk, length, pos, unsigned_abs, ◌+ℤ◌, ◌-ℤ◌, ◌≤ℤ◌, ◌<ℤ◌};
 ghost use Rattle.std.specs.Int.{int_max};
 ghost use Rattle.fixed.specs.Fractions.{bits_of};
 ghost use Rattle.energy_program.specs.Programs.{trees_of};
@@ -7,13 +7,15 @@ ghost use Rattle.job.specs.Views.{job_value};
 ghost use Rattle.kernel_lanes.specs.Lanes.{IsServed};
 ghost use Rattle.interval_domain.specs.Views.{span_range};
 ghost use Rattle.curves.specs.Potentials.{IsPotentialOf};
-ghost use Rattle.curves.specs.Slices.{AreBoundsOver};
-ghost use Rattle.curves.specs.Tables.{IsRow, distance_of, distances_of, others_of};
+ghost use Rattle.curve_lines.specs.Rows as rows;
+ghost use Rattle.curves.specs.Slices.{AreWorstOver, bounds_view, jumps_over};
+ghost use Rattle.curves.specs.Tables.{IsRow, all_distances, distance_of, distances_of, others_of};
 
+use crate::jumps::jumps_over;
 use crate::pairs::Pair;
 use crate::potentials::Potential;
-use crate::slices::{Bounds, bounds_over};
-use curve_lines::Row;
+use crate::slices::{Column, WorstPart, WorstParts, bounds_over};
+use curve_lines::{Row, is_large};
 use fixed::Fx;
 use interval_domain::Span;
 use job::Job;
@@ -77,7 +79,17 @@ fn distances_at<A: Allocator>(job: &Job<A>, points: u32, i: u32) -> Span
     }
 }
 
-// Bounds on the errors of the potential at the distances that row i covers.
+// The distances of all rows.
+fn all_distances<A: Allocator>(job: &Job<A>) -> Span
+    ensures { span_range result ≡ all_distances (job_value job.now) }
+{
+    Span {
+        lo: job.core,
+        hi: Fx::from_raw(job.cutoff.raw() - 1),
+    }
+}
+
+// Bounds on the errors of the potential at the distances that row i covers, and the worst parts.
 fn bounds_at<A: Allocator + Copy>(
     alloc: A,
     job: &Job<A>,
@@ -85,15 +97,48 @@ fn bounds_at<A: Allocator + Copy>(
     pair: &Pair<A>,
     points: u32,
     i: u32,
-) -> Result<Bounds, AllocError>
+) -> Result<WorstParts, AllocError>
     requires some { 1 ≤ points }
     requires within { i ≤ points }
     requires is { IsPotentialOf (job_value job.now) potential.now }
-    ensures { IfOk result (AreBoundsOver (bits_of job.now.frac) (trees_of potential.now.slope.energy) pair.now.others.items
-        (distances_of (job_value job.now) points i)) }
+    ensures { IfOk result (λ w. AreWorstOver (bits_of job.now.frac) (trees_of potential.now.slope.energy) pair.now.others.items
+        (distances_of (job_value job.now) points i) (bounds_view w.energy.bound w.slope.bound) (span_range w.energy.range)
+        (span_range w.slope.range)) }
 {
     let distances = distances_at(job, points, i);
     bounds_over(alloc, &potential.formula, job.frac, &pair.others, distances)
+}
+
+// Whether the bound of a column's value is large and a jump.
+fn is_jump<A: Allocator + Copy>(
+    alloc: A,
+    job: &Job<A>,
+    potential: &Potential<A>,
+    pair: &Pair<A>,
+    column: Column,
+    value: Fx,
+    worst: WorstPart,
+) -> Result<bool, AllocError>
+    requires is { IsPotentialOf (job_value job.now) potential.now }
+    ensures { IfOk result (λ t. t ≡ (rows.is_large value worst.bound
+        && jumps_over (bits_of job.now.frac) (trees_of potential.now.slope.energy) pair.now.others.items (all_distances (job_value job.now))
+        column (span_range worst.range))) }
+{
+    if is_large(value, worst.bound) {
+        let domain = all_distances(job);
+        let others = &pair.others;
+        jumps_over(
+            alloc,
+            &potential.formula,
+            job.frac,
+            others,
+            domain,
+            column,
+            worst.range,
+        )
+    } else {
+        Ok(false)
+    }
 }
 
 // The request for a pair's value at a distance.
@@ -131,14 +176,36 @@ pub(crate) fn row_at<A: Allocator + Copy>(
     requires others { pair.now.others.items ≡ others_of (job_value job.now) pair.now.a pair.now.b }
     ensures { IfOk result (IsRow (job_value job.now) (trees_of potential.now.slope.energy) points pair.now.a pair.now.b i) }
 {
-    let bounds = bounds_at(alloc, job, potential, pair, points, i)?;
+    let worst = bounds_at(alloc, job, potential, pair, points, i)?;
     let distance = distance_at(job, points, i);
     let query = query_of(job, potential, pair, distance);
+    let energy = potential.energy_at(job, &query);
+    let slope = potential.slope_at(job, &query);
+    let energy_jumps = is_jump(
+        alloc,
+        job,
+        potential,
+        pair,
+        Column::Energy,
+        energy,
+        worst.energy,
+    )?;
+    let slope_jumps = is_jump(
+        alloc,
+        job,
+        potential,
+        pair,
+        Column::Slope,
+        slope,
+        worst.slope,
+    )?;
     Ok(Row {
         distance,
-        energy: potential.energy_at(job, &query),
-        energy_error: bounds.energy,
-        slope: potential.slope_at(job, &query),
-        slope_error: bounds.slope,
+        energy,
+        energy_error: worst.energy.bound,
+        energy_jumps,
+        slope,
+        slope_error: worst.slope.bound,
+        slope_jumps,
     })
 }

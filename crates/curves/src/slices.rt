@@ -9,7 +9,7 @@ ghost use Rattle.interval_domain.specs.Views.{span_range};
 ghost use Rattle.formula_bounds.specs.Nodes.{formula_of};
 ghost use Rattle.formula_bounds.specs.Walks.{either_if_there, entries_of_program, outcomes_if_there};
 ghost use Rattle.curves.specs.Slices as slices;
-ghost use Rattle.curves.specs.Slices.{AreBoundsOver, IsGreatest, IsNext, IsToHalve, IsWorst, at_ends, bounds_at, bounds_on, halved_at, in_column, middle, part_on};
+ghost use Rattle.curves.specs.Slices.{AreOfWorst, AreWorstOver, IsNext, IsToHalve, IsWorst, at_ends, bounds_at, bounds_on, halved_at, in_column, middle, part_on};
 ghost use Rattle.curves.specs.declared.slices.Column.TheVariants as column;
 
 use error_bounds::{Approximation, Outcomes};
@@ -52,8 +52,8 @@ impl Model for Bounds {
 }
 
 impl Bounds {
-    // The bound in a column.
-    fn of(&self, column: Column) -> Option<u64>
+    /// The bound in a column.
+    pub(crate) fn of(&self, column: Column) -> Option<u64>
         ensures { result ≡ in_column column self.now }
     {
         match column {
@@ -102,6 +102,24 @@ impl Part {
     }
 }
 
+/// The greatest bound of a column over the parts of a range, and the distances of the first part that has it.
+#[derive(Clone, Copy)]
+pub(crate) struct WorstPart {
+    /// The bound, in units of 2^-(bits + 8); `None` if a part has none.
+    pub(crate) bound: Option<u64>,
+    /// The distances of the part.
+    pub(crate) range: Span,
+}
+
+/// The worst parts of both columns.
+#[derive(Clone, Copy)]
+pub(crate) struct WorstParts {
+    /// The one of the energy.
+    pub(crate) energy: WorstPart,
+    /// The one of the slope.
+    pub(crate) slope: WorstPart,
+}
+
 // The greatest magnitude of an error.
 fn bound_of(approximation: &Partial) -> Option<u64>
     ensures { result ≡ slices.bound_of approximation.now }
@@ -122,8 +140,8 @@ fn greater(x: Option<u64>, y: Option<u64>) -> Option<u64>
     }
 }
 
-// The greater bounds of both columns.
-fn greater_of_each(x: &Bounds, y: &Bounds) -> Bounds
+/// The greater bounds of both columns.
+pub(crate) fn greater_of_each(x: &Bounds, y: &Bounds) -> Bounds
     ensures { result ≡ slices.greater_bounds x.now y.now }
 {
     Bounds {
@@ -296,8 +314,8 @@ fn bounds_by<A: Allocator + Copy>(
     }
 }
 
-// The bounds for all distances in the range.
-fn bounds_on<A: Allocator + Copy>(
+/// The bounds for all distances in the range.
+pub(crate) fn bounds_on<A: Allocator + Copy>(
     alloc: A,
     formula: &Formula<A>,
     frac: Frac,
@@ -464,15 +482,27 @@ fn at_ends<A: Allocator + Copy>(
     Ok(greater_of_each(&first, &last))
 }
 
-// The greatest bounds of the parts.
-fn greatest(parts: &[Part]) -> Bounds
+// The worst part of a column.
+fn worst_of(column: Column, parts: &[Part]) -> WorstPart
     requires { 0 < length parts.now }
-    ensures energy { IsGreatest column.Energy parts.now result }
-    ensures slope { IsGreatest column.Slope parts.now result }
+    ensures { AreOfWorst column parts.now result.bound (span_range result.range) }
 {
-    Bounds {
-        energy: parts[worst(Column::Energy, parts)].bound(Column::Energy),
-        slope: parts[worst(Column::Slope, parts)].bound(Column::Slope),
+    let part = &parts[worst(column, parts)];
+    WorstPart {
+        bound: part.bound(column),
+        range: part.range(),
+    }
+}
+
+// The worst parts of both columns.
+fn worst_parts(parts: &[Part]) -> WorstParts
+    requires { 0 < length parts.now }
+    ensures energy { AreOfWorst column.Energy parts.now result.energy.bound (span_range result.energy.range) }
+    ensures slope { AreOfWorst column.Slope parts.now result.slope.bound (span_range result.slope.range) }
+{
+    WorstParts {
+        energy: worst_of(Column::Energy, parts),
+        slope: worst_of(Column::Slope, parts),
     }
 }
 
@@ -484,9 +514,10 @@ pub(crate) fn bounds_over<A: Allocator + Copy>(
     frac: Frac,
     others: &[Constant],
     range: Span,
-) -> Result<Bounds, AllocError>
+) -> Result<WorstParts, AllocError>
     ensures { (program : Trees) → formula.now ≡ formula_of program
-        → IfOk result (AreBoundsOver (bits_of frac) program others.now (span_range range)) }
+        → IfOk result (λ w. AreWorstOver (bits_of frac) program others.now (span_range range)
+        (slices.bounds_view w.energy.bound w.slope.bound) (span_range w.energy.range) (span_range w.slope.range)) }
 {
     let mut parts = Vec::new(alloc);
     parts.push(part_on(alloc, formula, frac, others, range)?)?;
@@ -496,8 +527,8 @@ pub(crate) fn bounds_over<A: Allocator + Copy>(
             Some(number) => {
                 tried = halve(alloc, formula, frac, others, &mut parts, tried, number)?;
             }
-            None => return Ok(greatest(&parts)),
+            None => return Ok(worst_parts(&parts)),
         }
     }
-    Ok(greatest(&parts))
+    Ok(worst_parts(&parts))
 }

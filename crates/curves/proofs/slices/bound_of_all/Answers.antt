@@ -1,6 +1,6 @@
-use Rattle.std.proofs.Common.{◌≡◌, ◌-◌, ◌<◌, ◌∙◌, Some, ap, arith, length, map, refl, sym}
-use Rattle.curves.specs.Slices.{bound_of, in_entry}
-use Rattle.formula_bounds.specs.Walks.{of_outcomes_if_there, outcomes_of_all}
+use Rattle.std.proofs.Common.{◌≡◌, ◌-◌, ◌<◌, ◌∙◌, ap, arith, length, refl, sym}
+use Rattle.curves.specs.Slices.{bound_of}
+use Rattle.formula_bounds.specs.Walks.{of_outcomes_if_there}
 use Rattle.curves.proofs.LeastLaws.{last_outcomes, one_more_outcomes, outcomes_from}
 use Rattle.curves.proofs.slices.bound_of_all.Goals as goal
 

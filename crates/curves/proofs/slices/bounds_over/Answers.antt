@@ -1,7 +1,7 @@
-use Rattle.std.proofs.Common.{Some, arith}
+use Rattle.std.proofs.Common.{Some, None, inl, inr, arith}
 use Rattle.fixed.specs.Fractions.{bits_of}
 use Rattle.interval_domain.specs.Views.{span_range}
-use Rattle.curves.proofs.PartLaws.{next_seen, one_alone, one_halving, some_left, started, there_of_next}
+use Rattle.curves.proofs.PartLaws.{next_seen, one_alone, one_halving, some_left, started, there_of_next, worst_over}
 use Rattle.curves.proofs.slices.bounds_over.Goals as goal
 
 pub loop-halvings-init : goal.loop-halvings-init
@@ -40,3 +40,20 @@ loop-halvings-preserved g c =
           c.halve.new.parts.items h.0 c.loop-halvings.tried c.in_ok-tried-in-Some.tried (c.loop-halvings.invariant.halved program e)
           (omega (arith, c.loop-halvings-test.true, c.loop-halvings.auto.halvings-end)) next h.1 h.2 h.3;
     }
+
+pub returns-in-None : goal.returns-in-None
+returns-in-None g c = λ program e.
+    let worst = c.worst_parts.result in
+    worst_over (bits_of c.args.frac) program c.args.others.now (span_range c.args.range) c.loop-halvings.halvings c.loop-halvings.parts.items
+    c.deref-in-None.result.now c.loop-halvings.tried worst.energy.bound worst.slope.bound (span_range worst.energy.range)
+    (span_range worst.slope.range) c.deref-in-None.ensures.value (c.loop-halvings.invariant.halved program e)
+    (inl (next_seen c.loop-halvings.halvings c.loop-halvings.parts.items c.deref.result.now c.loop-halvings.tried None c.deref.ensures.value c.in-None.ensures))
+    c.worst_parts.ensures.energy c.worst_parts.ensures.slope
+
+pub returns : goal.returns
+returns g c = λ program e.
+    let worst = c.worst_parts-2.result in
+    worst_over (bits_of c.args.frac) program c.args.others.now (span_range c.args.range) c.loop-halvings.halvings c.loop-halvings.parts.items
+    c.deref-2.result.now c.loop-halvings.tried worst.energy.bound worst.slope.bound (span_range worst.energy.range)
+    (span_range worst.slope.range) c.deref-2.ensures.value (c.loop-halvings.invariant.halved program e)
+    (inr (omega (arith, c.loop-halvings-test.false, c.loop-halvings.auto.halvings-end))) c.worst_parts-2.ensures.energy c.worst_parts-2.ensures.slope

@@ -1,0 +1,129 @@
+//! Whether a large bound is a jump: whether it is far above the bounds at distances nearby.
+ghost use Rattle.std.specs.Prelude.{◌≡◌, ◌+ℤ◌, ◌-ℤ◌, ◌≤ℤ◌, pos, IfOk};
+ghost use Rattle.std.specs.Int.{int_max, int_min};
+ghost use Rattle.energy_program.specs.Programs.{Trees};
+ghost use Rattle.fixed.specs.Fractions.{bits_of};
+ghost use Rattle.interval_domain.specs.Views.{span_range};
+ghost use Rattle.formula_bounds.specs.Nodes.{formula_of};
+ghost use Rattle.curves.specs.Slices as slices;
+
+use crate::slices::{Bounds, Column, bounds_on, greater_of_each};
+use fixed::{Constant, Frac, Fx};
+use formula_bounds::Formula;
+use interval_domain::Span;
+use std::alloc::{AllocError, Allocator};
+
+// The bounds at each end of a part are those of this number of distances.
+const DISTANCES: u32 = 16;
+// The bounds beside a range are those at this number of distances from it.
+const BESIDE: u32 = 1024;
+
+// Whether a bound is above four times the greatest bound beside it.
+fn is_local(bound: Option<u64>, beside: Option<u64>) -> bool
+    ensures { result ≡ slices.is_local bound beside }
+{
+    match (bound, beside) {
+        (Some(bound), Some(beside)) => 4 * u128::from(beside) < u128::from(bound),
+        _ => false,
+    }
+}
+
+// The distance that is `more` above another, or `high` if it is less.
+fn up_to(high: Fx, at: Fx, more: u32) -> Fx
+    ensures value { result ≡ int_min high (at +ℤ pos more) }
+    ensures ordered { at ≤ℤ high → at ≤ℤ result }
+{
+    if i128::from(high.raw()) - i128::from(at.raw()) <= i128::from(more) {
+        high
+    } else {
+        Fx::from_raw(at.raw() + i64::from(more))
+    }
+}
+
+// The distance that is `less` below another, or `low` if it is greater.
+fn down_to(low: Fx, at: Fx, less: u32) -> Fx
+    ensures value { result ≡ int_max low (at -ℤ pos less) }
+    ensures ordered { low ≤ℤ at → result ≤ℤ at }
+{
+    if i128::from(at.raw()) - i128::from(low.raw()) <= i128::from(less) {
+        low
+    } else {
+        Fx::from_raw(at.raw() - i64::from(less))
+    }
+}
+
+// The first 16 distances of a range.
+fn front_of(range: Span) -> Span
+    ensures { span_range result ≡ slices.front_of (span_range range) }
+{
+    Span {
+        lo: range.lo,
+        hi: up_to(range.hi, range.lo, DISTANCES - 1),
+    }
+}
+
+// The last 16 distances of a range.
+fn back_of(range: Span) -> Span
+    ensures { span_range result ≡ slices.back_of (span_range range) }
+{
+    Span {
+        lo: down_to(range.lo, range.hi, DISTANCES - 1),
+        hi: range.hi,
+    }
+}
+
+// The bounds at a single distance.
+fn bounds_at<A: Allocator + Copy>(
+    alloc: A,
+    formula: &Formula<A>,
+    frac: Frac,
+    others: &[Constant],
+    at: Fx,
+) -> Result<Bounds, AllocError>
+    ensures { (program : Trees) → formula.now ≡ formula_of program
+        → IfOk result (λ b. b ≡ slices.bounds_at (bits_of frac) program others.now at) }
+{
+    bounds_on(alloc, formula, frac, others, Span::single(at))
+}
+
+// Whether a column's bound on a range is above four times the greatest of the bounds beside it.
+fn is_local_on<A: Allocator + Copy>(
+    alloc: A,
+    formula: &Formula<A>,
+    frac: Frac,
+    others: &[Constant],
+    domain: Span,
+    column: Column,
+    range: Span,
+) -> Result<bool, AllocError>
+    ensures { (program : Trees) → formula.now ≡ formula_of program
+        → IfOk result (λ t. t ≡ slices.is_local_on (bits_of frac) program others.now (span_range domain) column (span_range range)) }
+{
+    let below = down_to(domain.lo, range.lo, BESIDE);
+    let above = up_to(domain.hi, range.hi, BESIDE);
+    let bounds = bounds_on(alloc, formula, frac, others, range)?;
+    let first = bounds_at(alloc, formula, frac, others, below)?;
+    let last = bounds_at(alloc, formula, frac, others, above)?;
+    let beside = greater_of_each(&first, &last);
+    Ok(is_local(bounds.of(column), beside.of(column)))
+}
+
+/// Whether a column jumps in its worst part, which is this range.
+pub(crate) fn jumps_over<A: Allocator + Copy>(
+    alloc: A,
+    formula: &Formula<A>,
+    frac: Frac,
+    others: &[Constant],
+    domain: Span,
+    column: Column,
+    range: Span,
+) -> Result<bool, AllocError>
+    ensures { (program : Trees) → formula.now ≡ formula_of program
+        → IfOk result (λ t. t ≡ slices.jumps_over (bits_of frac) program others.now (span_range domain) column (span_range range)) }
+{
+    let front = front_of(range);
+    let back = back_of(range);
+    let at_front = is_local_on(alloc, formula, frac, others, domain, column, front)?;
+    let at_back = is_local_on(alloc, formula, frac, others, domain, column, back)?;
+    Ok(at_front || at_back)
+}
