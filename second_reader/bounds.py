@@ -14,6 +14,7 @@ FINER = 256  # error units in a unit of 2^-bits
 MOST_ERROR = 2**62
 MOST_PRODUCT = 2**116
 MOST_HALVINGS = 256
+NEAR = 1024  # distances to each side of a jump
 MOST_DISTANCES = 16  # of a part whose walk is divided at undecided choices
 MOST_DIVISIONS = 3  # of a walk
 ENERGY, SLOPE = 0, 1
@@ -523,6 +524,20 @@ class Row:
         """The number of the first part with the greatest bound, or without a bound if there is such a part."""
         return [part[quantity] for part in self.parts].index(self.bound(quantity))
 
+    def is_local(self, piece, quantity, whole):
+        """The bound of a piece of a part is above four times those 1024 distances to both sides, in the range `whole`."""
+        ends = max(whole.low, piece.low - NEAR), min(whole.high, piece.high + NEAR)
+        beside = greatest([self.bounds(Range(z, z))[quantity] for z in ends])
+        bound = self.bounds(piece)[quantity]
+        return None not in (bound, beside) and bound > 4 * beside
+
+    def jumps(self, quantity, whole):
+        """The quantity's bound is a jump: one of the pieces at the ends of its worst part has a local bound."""
+        r = self.ranges[self.worst(quantity)]
+        low = Range(r.low, min(r.high, r.low + MOST_DISTANCES - 1))
+        high = Range(max(r.low, r.high - MOST_DISTANCES + 1), r.high)
+        return any(self.is_local(piece, quantity, whole) for piece in (low, high))
+
     def is_close(self, quantity):
         bound, tried = self.bound(quantity), greatest([at[quantity] for at in self.tried])
         return tried is None or (bound is not None and bound // 17 <= tried // 16)
@@ -550,8 +565,8 @@ class Row:
             self.halve(self.worst(left[0]))
 
 
-def row_bounds(formula, others, r):
-    """The bounds of a row with this range: of the energy and of the slope."""
+def halved_row(formula, others, r):
+    """A row with this range, after all halvings."""
     row = Row(formula, others, r)
     row.halve_all()
-    return [row.bound(quantity) for quantity in (ENERGY, SLOPE)]
+    return row

@@ -10,7 +10,7 @@ import argparse
 import sys
 
 from arithmetic import bits_of, nearest_of
-from bounds import ENERGY, FINER, SLOPE, Formula, Range, as_read, row_bounds, up_over
+from bounds import ENERGY, FINER, SLOPE, Formula, Range, as_read, halved_row, up_over
 from read import bytes_of, with_deep_stack
 from run_specification import NoText, program_says
 from slope import slope_of
@@ -60,8 +60,15 @@ def is_large(value, bound):
     return bound is not None and 1000 * bound > FINER * abs(value)
 
 
+def word_of(row, column, value, whole):
+    """The word that marks a column of a row, if its bound is large."""
+    if not is_large(value, row.bound(column)):
+        return None
+    return "jump" if row.jumps(column, whole) else "large"
+
+
 class Table:
-    """The table of a pair of types, by its rows: a distance, the values and the bounds, each of energy and slope."""
+    """The table of a pair of types, by its rows: a distance; and each of energy and slope, values, bounds and marks."""
 
     def __init__(self, job, tree, formula, first, second, points):
         self.names = (first.name.decode(), second.name.decode())
@@ -70,6 +77,7 @@ class Table:
         self.others = [as_read(it) for it in constants]
         self.raw = [it.value for it in constants]
         self.tree, self.formula = tree, formula
+        self.whole = Range(job.core, job.cutoff - 1)
         ends = [job.core + (job.cutoff - 1 - job.core) * i // points for i in range(points + 1)]
         self.rows = [self.row(r, after) for r, after in zip(ends, [*ends[1:], ends[-1]])]
 
@@ -79,30 +87,34 @@ class Table:
         values = [function(bits, (r, *self.raw))(self.tree) for function in (value_of, slope_of)]
         if None in values:
             raise NoText("values")
-        found = row_bounds(self.formula, self.others, Range(r, max(r, after - 1)))
-        return r, values, found
+        row = halved_row(self.formula, self.others, Range(r, max(r, after - 1)))
+        found = [row.bound(column) for column in (ENERGY, SLOPE)]
+        words = [word_of(row, column, values[column], self.whole) for column in (ENERGY, SLOPE)]
+        return r, values, found, words
 
     def line(self, row, columns):
         """The line of a row."""
-        r, values, found = row
-        words = [self.texts.value(r)]
+        r, values, found, words = row
+        texts = [self.texts.value(r)]
         for column in columns:
-            words += [self.texts.value(values[column]), self.texts.bound(found[column])]
-        large = [ERRORS[column] for column in columns if is_large(values[column], found[column])]
-        return " ".join([*words, "# large", *large] if large else words)
+            texts += [self.texts.value(values[column]), self.texts.bound(found[column])]
+        for word in ("jump", "large"):
+            marked = [ERRORS[column] for column in columns if words[column] == word]
+            texts += ["#", word, *marked] if marked else []
+        return " ".join(texts)
 
     def lacking(self, columns):
         """The lines for bounds that are missing."""
         return [
             f"# no {ERRORS[column]} from {self.texts.value(r)}"
-            for r, _, found in self.rows
+            for r, _, found, _ in self.rows
             for column in columns
             if found[column] is None
         ]
 
     def greatest(self, column):
         """The greatest bound of a column, the distance of the first row that has it, and the number of rows without."""
-        found = [(of[column], r) for r, _, of in self.rows if of[column] is not None]
+        found = [(of[column], r) for r, _, of, _ in self.rows if of[column] is not None]
         without = len(self.rows) - len(found)
         words = [ERRORS[column], "-"]
         if found:

@@ -206,6 +206,11 @@ class Tables(unittest.TestCase):
         self.assertEqual((curve.types, curve.rows[0].slope), (("AR", "KR"), Decimal("-9.5")))
         self.assertEqual((curve.rows[0].energy_error, curve.rows[0].slope_error), (Decimal("1.00e-2"), None))
 
+    def test_marks_are_skipped(self):
+        marked = CURVE.replace("# large energy-error", "# jump slope-error # large energy-error")
+        (plain,), (curve,) = (pairmd.read_curves(text.splitlines(keepends=True)) for text in (CURVE, marked))
+        self.assertEqual(curve.rows, plain.rows)
+
     def test_curve_of_two_pairs(self):
         text = CURVE + "\n\n" + CURVE.replace("# AR KR\n", "# KR XE\n# XE KR\n")
         curves = list(pairmd.read_curves(text.splitlines(keepends=True)))

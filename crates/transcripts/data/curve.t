@@ -138,7 +138,7 @@ In a row in which the energy jumps, the jump is a part of the bound: any distanc
   0.199999999953 0.000000000000 0 0.000000000000 0
   0.299999999814 0.000000000000 0 0.000000000000 0
   0.399999999674 0.000000000000 0 0.000000000000 0
-  0.499999999767 0.000000000000 1.00e0 0.000000000000 0 # large energy-error
+  0.499999999767 0.000000000000 1.00e0 0.000000000000 0 # jump energy-error
   0.599999999627 1.000000000000 0 0.000000000000 0
   0.699999999721 1.000000000000 0 0.000000000000 0
   0.799999999581 1.000000000000 0 0.000000000000 0
@@ -147,28 +147,28 @@ In a row in which the energy jumps, the jump is a part of the bound: any distanc
   $ with job 2 'energy floor(2*r)' pairmd curve job --points 2
   # AR AR
   # r/nm energy/(kJ/mol) energy-error slope/(kJ/mol/nm) slope-error
-  0.199999999953 0.000000000000 1.00e0 0.000000000000 0 # large energy-error
+  0.199999999953 0.000000000000 1.00e0 0.000000000000 0 # jump energy-error
   0.549999999814 1.000000000000 0 0.000000000000 0
   0.899999999674 1.000000000000 0 0.000000000000 0
   # greatest energy-error 1.00e0 at 0.199999999953, slope-error 0 at 0.199999999953
   $ with job 2 'energy ceil(2*r)' pairmd curve job --points 2
   # AR AR
   # r/nm energy/(kJ/mol) energy-error slope/(kJ/mol/nm) slope-error
-  0.199999999953 1.000000000000 1.00e0 0.000000000000 0 # large energy-error
+  0.199999999953 1.000000000000 1.00e0 0.000000000000 0 # jump energy-error
   0.549999999814 2.000000000000 0 0.000000000000 0
   0.899999999674 2.000000000000 0 0.000000000000 0
   # greatest energy-error 1.00e0 at 0.199999999953, slope-error 0 at 0.199999999953
   $ with job 2 'energy delta(r-0.5)' pairmd curve job --points 2
   # AR AR
   # r/nm energy/(kJ/mol) energy-error slope/(kJ/mol/nm) slope-error
-  0.199999999953 0.000000000000 1.00e0 0.000000000000 0 # large energy-error
+  0.199999999953 0.000000000000 1.00e0 0.000000000000 0 # jump energy-error
   0.549999999814 0.000000000000 0 0.000000000000 0
   0.899999999674 0.000000000000 0 0.000000000000 0
   # greatest energy-error 1.00e0 at 0.199999999953, slope-error 0 at 0.199999999953
   $ with job 2 'energy select(step(r-0.5), 2*r, 3*r)' pairmd curve job --points 2
   # AR AR
   # r/nm energy/(kJ/mol) energy-error slope/(kJ/mol/nm) slope-error
-  0.199999999953 0.599999999860 5.01e-1 3.000000000000 1.00e0 # large energy-error slope-error
+  0.199999999953 0.599999999860 5.01e-1 3.000000000000 1.00e0 # jump energy-error slope-error
   0.549999999814 1.099999999627 4.66e-10 2.000000000000 0
   0.899999999674 1.799999999348 4.66e-10 2.000000000000 0
   # greatest energy-error 5.01e-1 at 0.199999999953, slope-error 1.00e0 at 0.199999999953
@@ -178,21 +178,21 @@ Where the operands meet, the slope jumps.
   $ with job 2 'energy abs(r-0.5)' pairmd curve job --points 2
   # AR AR
   # r/nm energy/(kJ/mol) energy-error slope/(kJ/mol/nm) slope-error
-  0.199999999953 0.300000000047 2.33e-10 -1.000000000000 2.00e0 # large slope-error
+  0.199999999953 0.300000000047 2.33e-10 -1.000000000000 2.00e0 # jump slope-error
   0.549999999814 0.049999999814 2.33e-10 1.000000000000 0
   0.899999999674 0.399999999674 2.33e-10 1.000000000000 0
   # greatest energy-error 2.33e-10 at 0.199999999953, slope-error 2.00e0 at 0.199999999953
   $ with job 2 'energy min(r, 0.5)' pairmd curve job --points 2
   # AR AR
   # r/nm energy/(kJ/mol) energy-error slope/(kJ/mol/nm) slope-error
-  0.199999999953 0.199999999953 2.33e-10 1.000000000000 1.00e0 # large slope-error
+  0.199999999953 0.199999999953 2.33e-10 1.000000000000 1.00e0 # jump slope-error
   0.549999999814 0.500000000000 0 0.000000000000 0
   0.899999999674 0.500000000000 0 0.000000000000 0
   # greatest energy-error 2.33e-10 at 0.199999999953, slope-error 1.00e0 at 0.199999999953
   $ with job 2 'energy max(r, 0.5)' pairmd curve job --points 2
   # AR AR
   # r/nm energy/(kJ/mol) energy-error slope/(kJ/mol/nm) slope-error
-  0.199999999953 0.500000000000 2.33e-10 0.000000000000 1.00e0 # large slope-error
+  0.199999999953 0.500000000000 2.33e-10 0.000000000000 1.00e0 # jump slope-error
   0.549999999814 0.549999999814 2.33e-10 1.000000000000 0
   0.899999999674 0.899999999674 2.33e-10 1.000000000000 0
   # greatest energy-error 2.33e-10 at 0.199999999953, slope-error 1.00e0 at 0.199999999953
@@ -212,7 +212,7 @@ their slopes cancel. Two choices without a definition are open one by one: a slo
   $ with job 2 'energy min(r, 0.5)-min(r, 0.5)' pairmd curve job --points 2
   # AR AR
   # r/nm energy/(kJ/mol) energy-error slope/(kJ/mol/nm) slope-error
-  0.199999999953 0.000000000000 2.33e-10 0.000000000000 2.00e0 # large energy-error slope-error
+  0.199999999953 0.000000000000 2.33e-10 0.000000000000 2.00e0 # jump slope-error # large energy-error
   0.549999999814 0.000000000000 0 0.000000000000 0
   0.899999999674 0.000000000000 0 0.000000000000 0
   # greatest energy-error 2.33e-10 at 0.199999999953, slope-error 2.00e0 at 0.199999999953
@@ -241,7 +241,7 @@ walks any computed slope may meet any exact one, so the bound is 8.
   $ with job 2 'energy w-w+(x-x)+(y-y)+(z-z); w=max(2*r, 1); x=max(r, 0.5); y=abs(r-0.5); z=select(step(r-0.5), r, 0.5)' pairmd curve job --points 2
   # AR AR
   # r/nm energy/(kJ/mol) energy-error slope/(kJ/mol/nm) slope-error
-  0.199999999953 0.000000000000 1.17e-9 0.000000000000 8.00e0 # large energy-error slope-error
+  0.199999999953 0.000000000000 1.17e-9 0.000000000000 8.00e0 # jump slope-error # large energy-error
   0.549999999814 0.000000000000 1.17e-9 0.000000000000 0 # large energy-error
   0.899999999674 0.000000000000 1.17e-9 0.000000000000 0 # large energy-error
   # greatest energy-error 1.17e-9 at 0.199999999953, slope-error 8.00e0 at 0.199999999953
@@ -260,9 +260,45 @@ A row is marked if a bound exceeds a thousandth of its value. A jump of 1 is a t
   $ with job 2 'energy 999+step(r-0.5)' pairmd curve job --points 2
   # AR AR
   # r/nm energy/(kJ/mol) energy-error slope/(kJ/mol/nm) slope-error
-  0.199999999953 999.000000000000 1.00e0 0.000000000000 0 # large energy-error
+  0.199999999953 999.000000000000 1.00e0 0.000000000000 0 # jump energy-error
   0.549999999814 1000.000000000000 0 0.000000000000 0
   0.899999999674 1000.000000000000 0 0.000000000000 0
+  # greatest energy-error 1.00e0 at 0.199999999953, slope-error 0 at 0.199999999953
+
+A large bound is a jump if it is far above the bounds 1024 distances to both sides. With one column only that column is
+marked.
+
+  $ with job 2 'energy select(step(r-0.5), 2*r, 3*r)' pairmd curve job --points 1 --energy
+  # AR AR
+  # r/nm energy/(kJ/mol) energy-error
+  0.199999999953 0.599999999860 5.01e-1 # jump energy-error
+  0.899999999674 1.799999999348 4.66e-10
+  # greatest energy-error 5.01e-1 at 0.199999999953
+  $ with job 2 'energy select(step(r-0.5), 2*r, 3*r)' pairmd curve job --points 1 --slope
+  # AR AR
+  # r/nm slope/(kJ/mol/nm) slope-error
+  0.199999999953 3.000000000000 1.00e0 # jump slope-error
+  0.899999999674 2.000000000000 0
+  # greatest slope-error 1.00e0 at 0.199999999953
+
+The computed energy is 0 from the kink on, so its bound is as large as before the kink. The slope jumps there.
+
+  $ with job 2 'energy max(0, 0.1-0.2*r)' with job 3 'core 0.499999' pairmd curve job --points 2
+  # AR AR
+  # r/nm energy/(kJ/mol) energy-error slope/(kJ/mol/nm) slope-error
+  0.499998999992 0.000000200234 3.98e-10 -0.199999999953 2.01e-1 # jump slope-error # large energy-error
+  0.699999499833 0.000000000000 0 0.000000000000 0
+  0.899999999674 0.000000000000 0 0.000000000000 0
+  # greatest energy-error 3.98e-10 at 0.499998999992, slope-error 2.01e-1 at 0.499998999992
+
+The core has no distance below it, so a jump at the core is only large.
+
+  $ with job 2 'energy step(r-0.2)' pairmd curve job --points 2
+  # AR AR
+  # r/nm energy/(kJ/mol) energy-error slope/(kJ/mol/nm) slope-error
+  0.199999999953 1.000000000000 1.00e0 0.000000000000 0 # large energy-error
+  0.549999999814 1.000000000000 0 0.000000000000 0
+  0.899999999674 1.000000000000 0 0.000000000000 0
   # greatest energy-error 1.00e0 at 0.199999999953, slope-error 0 at 0.199999999953
 
 ## Rows without a bound
