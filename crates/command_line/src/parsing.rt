@@ -45,7 +45,8 @@ const CURVE_HELP: &str = "\
 An error is a bound, proved for all distances from a row's up to the next row's:
 energy and slope are at most that far from the formula over exact numbers.
   -        no bound was found; a line '# no ..' names the row
-  # large  a bound exceeds a thousandth of its value";
+  # large  a bound exceeds a thousandth of its value
+  # jump   a large bound, because the energy or the slope jumps";
 
 /// The command that the arguments name. The name of the program isn't one of the arguments.
 ///

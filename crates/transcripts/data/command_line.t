@@ -190,6 +190,7 @@ Help is printed on standard output, and the exit status is 0.
   energy and slope are at most that far from the formula over exact numbers.
     -        no bound was found; a line '# no ..' names the row
     # large  a bound exceeds a thousandth of its value
+    # jump   a large bound, because the energy or the slope jumps
 
 The version is printed in the same way. `--version` is an option of the program, not of a command.
 
