@@ -46,6 +46,7 @@ An explanation prints the forms of the error, its exit status, its meaning, an e
   
   Memory ran out: an allocation failed.
   `Memory`: before the first step, in `replay`, or in a command without steps.
+  `curve` may have printed whole tables.
   `Memory` can also replace another error whose line needs memory.
   `Memory after K steps`: after K whole steps, K from 0. `run` and `back` print
   nothing. `trajectory`, `states` and `observe` have printed whole frames, states
