@@ -124,18 +124,18 @@ COUNTS = [
     ("CONTRIBUTING.md", "and N tests", lambda: sum(it.count("#[test]") for it in texts("crates/*/src/**/*.rt"))),
 ]
 LENGTHS = {
-    "README.md": 2186,
-    "docs/GUIDE.md": 5621,
+    "README.md": 2195,
+    "docs/GUIDE.md": 5611,
     "docs/ACCURACY.md": 1887,
-    "docs/FORMATS.md": 4559,
+    "docs/FORMATS.md": 4569,
     "docs/MODEL.md": 3781,
-    "docs/PROOFS.md": 2735,
-    "docs/ARCHITECTURE.md": 3100,
-    "docs/BOUNDS.md": 1364,
+    "docs/PROOFS.md": 2726,
+    "docs/ARCHITECTURE.md": 3105,
+    "docs/BOUNDS.md": 1433,
     "docs/PERFORMANCE.md": 904,
     "docs/VALIDATION.md": 694,
-    "CONTRIBUTING.md": 3031,
-    "docs/PLAN.md": 488,
+    "CONTRIBUTING.md": 3022,
+    "docs/PLAN.md": 423,
 }
 OTHERS = 5650
 MOST_FUNCTIONS = 99
