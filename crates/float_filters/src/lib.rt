@@ -1,9 +1,9 @@
-//! Decisions in floating point that a proved bound on the rounding errors makes exact (S. Fortune and C. J. Van Wyk,
-//! Static Analysis Yields Efficient Exact Integer Arithmetic for Computational Geometry, 1996: floating-point filters).
+//! Decisions in floating point that proofs about rounding make exact (S. Fortune and C. J. Van Wyk, Static Analysis
+//! Yields Efficient Exact Integer Arithmetic for Computational Geometry, 1996: floating-point filters).
 //!
 //! `specs/Near.antt` defines how far a float is from an exact number, in factors of 1 - 2^-53 and 1 + 2^-53: one
 //! rounding adds one factor. `floors` finds integers that are the floors of four floats, and in which lanes this is
-//! certain. `distances` and `forces` return exact results for four pairs, or none.
+//! certain. `distances`, `forces` and `quotient_floors` return four exact results, or none.
 #![tactic(auto)]
 
 mod conversions;
