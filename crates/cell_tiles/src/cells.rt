@@ -16,11 +16,11 @@ use crate::cell_blocks::lay_out_all;
 use crate::grids::Grid;
 use crate::lists::PairList;
 use crate::near::{FrameInBox, NearPairs};
-use crate::pairs::{AtomPair, count_among, count_between, pair_among, pair_between};
+use crate::pairs::{count_among, count_between, pair_among, pair_between};
 use crate::tiles::Tile;
 use crate::walks::{TileRow, TileRows, walk_among, walk_between};
 use place_blocks::{Block, CellSpan, UpperHalves};
-use ring_box::Place3;
+use ring_box::{AtomPair, Place3};
 use std::alloc::{AllocError, Allocator};
 use std::marker::Model;
 

@@ -23,5 +23,4 @@ pub use cells::Cells;
 pub use grids::Grid;
 pub use laws::{each_pair_once, sums_as_all};
 pub use near::{FrameInBox, NearPairs};
-pub use pairs::AtomPair;
 pub use tiles::{Tile, Tiles};

@@ -15,8 +15,9 @@ ghost use Rattle.cell_tiles.specs.Tiles.{pair_of, pairs_with};
 use crate::lanes::{bits_of, near_lanes, next_lane};
 use crate::marks::Marks;
 use crate::near::FrameInBox;
-use crate::pairs::{AtomPair, in_order};
+use crate::pairs::in_order;
 use place_blocks::{Block, UpperHalves};
+use ring_box::AtomPair;
 use std::marker::Model;
 
 /// At most 128 pairs of atoms, in order. Contracts see the list of them. Up to 64 more are written before it is known

@@ -10,9 +10,8 @@ ghost use Rattle.ring_box.specs.Places.{ArePlaces};
 use crate::gathered::Gathered;
 use crate::lists::PairList;
 use crate::marks::Marks;
-use crate::pairs::AtomPair;
 use place_blocks::CoarseReach;
-use ring_box::{Place3, Reach, RingBox};
+use ring_box::{AtomPair, Place3, Reach, RingBox};
 use std::marker::Model;
 
 /// The positions of a frame's atoms in a box, and the reach of the pair force.

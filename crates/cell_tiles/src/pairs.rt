@@ -8,13 +8,7 @@ ghost use Rattle.std.specs.Prelude.{◌≡◌, ◌+◌, ◌*◌, ◌^◌, ◌<�
 ghost use Rattle.cell_tiles.specs.Tiles.{pair_of, pairs_among, pairs_between};
 
 use fixed::isqrt;
-
-/// Two atoms, the lower first.
-#[derive(Clone, Copy, PartialEq, Eq, Debug)]
-pub struct AtomPair {
-    pub low: u32,
-    pub high: u32,
-}
+use ring_box::AtomPair;
 
 /// The pair of two atoms, in either order.
 #[inline]

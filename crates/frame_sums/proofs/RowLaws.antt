@@ -1,9 +1,9 @@
 -- Interacting pairs in batches: the pairs found have the forces of all interacting pairs.
-use Rattle.std.proofs.Common.{◌≡◌, ℕ, suc, ◌+◌, ◌^◌, ◌<◌, ◌≤◌, append-nil, cond, false, min, List, [], ◌∷◌, ◌++◌, length, map, filter, take, drop, ℤ, pos, Option, Some, None, arith, refl, ap, ap₂, sym, ◌∙◌, is_some, neg_ℤ, option_map, slice_get, slice_index, All, true≢false, take-add, inl, inr, get_or, subst}
+use Rattle.std.proofs.Common.{◌≡◌, ℕ, zero, suc, ◌+◌, ◌^◌, ◌<◌, ◌≤◌, append-nil, cond, false, min, List, [], ◌∷◌, ◌++◌, length, map, filter, take, drop, ℤ, pos, Option, Some, None, arith, refl, ap, ap₂, sym, ◌∙◌, is_some, neg_ℤ, option_map, slice_get, slice_index, All, true≢false, take-add, inl, inr, get_or, subst}
 use Rattle.std.specs.Prelude.{◌≤ℤ◌, ◌<ℤ◌}
 use Rattle.ring_box.specs.PairForces.{force_in}
 use Rattle.std.proofs.lemmas.Bool.{cases_lt}
-use Rattle.std.proofs.lemmas.List.Elements.{All-cons, All-get_or}
+use Rattle.std.proofs.lemmas.List.Elements.{All-cons, All-get_or, All-map}
 use Rattle.std.proofs.lemmas.Option.{get_or_from_slice_get, same_Some, slice_get-get_or, slice_get-map, slice_get_within}
 use Rattle.std.proofs.lemmas.List.{drop-map, get_or-map, length-append, length-drop, length-map, length-take, map-append, take-map}
 use Rattle.kernel_lanes.specs.Flats.{query_at}
@@ -11,7 +11,8 @@ use Rattle.kernel_lanes.specs.Lanes.{IsServed}
 use Rattle.kernel_lanes.specs.declared.queries.Query.{Query}
 use Rattle.ring_box.specs.Acting.{ActingPair, Reach, acting_of, force_of}
 use Rattle.ring_box.specs.Distances.{distance_at, square_of}
-use Rattle.ring_box.specs.FoundPairs.{AreForcesOf, AreSlopesSmall, FoundPairs, with_pair}
+use Rattle.ring_box.specs.FoundPairs.{AreForcesOf, AreSlopesSmall, found_among}
+use Rattle.ring_box.specs.declared.pairs.AtomPair.{AtomPair}
 use Rattle.ring_box.specs.declared.vectors.Place3.{Place3}
 use Rattle.ring_box.specs.declared.vectors.Vector.{Vector}
 use Rattle.ring_box.proofs.ActingLemmas.{halves, taken}
@@ -26,7 +27,7 @@ use Rattle.integrator.specs.Frames.{Frame}
 use Rattle.integrator.specs.declared.systems.System.{System}
 use Rattle.frame_sums.proofs.ActingLaws.{few_act}
 use Rattle.frame_sums.specs.Rounds.{add_of, pair_add}
-use Rattle.frame_sums.specs.Rows.{AreFoundForces, AreNextFound, AreSlopes, IsFound, IsSlope, add_found, minus_slope_for, query_of, found_in, found_of, reach_of}
+use Rattle.frame_sums.specs.Rows.{adds_from, AreFoundForces, AreNextFound, AreSlopes, IsFound, IsSlope, add_found, minus_slope_for, query_of, found_in, found_of, reach_of}
 use Rattle.ring_box.specs.declared.pair_forces.PairForces.{PairForces}
 use Rattle.potential.proofs.PotentialLaws.{minus_is}
 use Rattle.potential.specs.LaneKernels.{IsCodeValue}
@@ -61,23 +62,82 @@ mapped_twice : {P X Y : Type 0} (f : P → Option X) (g : X → Y) (h : P → Op
 mapped_twice f g h same [] = refl
 mapped_twice f g h same (p ∷ ps) = ap₂ (λ y ys. y ∷ ys) (same p) (mapped_twice f g h same ps)
 
--- the pairs that were put, and the next if it acts
-pub put_next : (d : Reach) (m : ℕ) (os : List (Option FoundPair)) (l : ℕ) (o : Option FoundPair) → slice_get os l ≡ Some o
-    → with_pair (record { reach = d; pairs = acting (take l os); measured = m }) o ≡ record { reach = d; pairs = acting (take (l + 1) os); measured = m }
-put_next d m os l None at = rw (acting_next os l None at, append-nil (acting (take l os))) refl
-put_next d m os l (Some f) at = rw (acting_next os l (Some f) at) refl
-
--- a batch grows by at most one pair
-pub few_put : (f : FoundPairs) (o : Option FoundPair) → length (with_pair f o).pairs ≤ length f.pairs + 1
-few_put f None = omega arith
-few_put f (Some x) = omega (arith, length-append f.pairs (x ∷ []))
-
 -- no element has no image
 none_mapped : {X Y : Type 0} (f : X → Y) (o : Option X) → is_some o ≡ false → option_map f o ≡ None
 none_mapped f None h = refl
 none_mapped f (Some x) h = absurd (true≢false h)
 
+-- ---- pairs by their indices
+
+-- the pair that has these atoms
+pub pair_at : (found : List FoundPair) (l : ℕ) (atoms : ℕ × ℕ) → slice_get (map (λ f. (f.low, f.high)) found) l ≡ Some atoms → (f : FoundPair) × (slice_get found l ≡ Some f)
+pair_at found l atoms at =
+    let none : FoundPair = record { low = 0; high = 0; acting = record { x = pos 0; y = pos 0; z = pos 0; length = 1; distance = pos 0 } } in
+    let pair : FoundPair → ℕ × ℕ = λ f. (f.low, f.high) in
+    let lt : l < length found = omega (arith, slice_get_within (map pair found) l atoms at, length-map found pair) in
+    (get_or found l none, slice_get-get_or found l none lt)
+
+-- those are the atoms of the pair
+pub same_atoms : (found : List FoundPair) (l : ℕ) (f : FoundPair) (atoms : ℕ × ℕ) → slice_get found l ≡ Some f → slice_get (map (λ f. (f.low, f.high)) found) l ≡ Some atoms → (f.low, f.high) ≡ atoms
+same_atoms found l f atoms here at =
+    let pair : FoundPair → ℕ × ℕ = λ f. (f.low, f.high) in
+    same_Some (f.low, f.high) atoms (sym (slice_get-map pair found l ∙ ap (option_map pair) here) ∙ at)
+
+-- pairs of n atoms have indices below n
+pub pairs_inside : (n : ℕ) (near : List AtomPair) → All (λ (p : ℕ × ℕ). (p.0 < p.1) × (p.1 < n)) (map (λ q. (q.low, q.high)) near)
+    → All (λ (p : AtomPair). (p.low < n) × (p.high < n)) near
+pairs_inside n near all =
+    λ k d lt.
+    let pair : AtomPair → ℕ × ℕ = λ q. (q.low, q.high) in
+    let are : ℕ × ℕ → Type 0 = λ p. (p.0 < p.1) × (p.1 < n) in
+    let here : are (pair (get_or near k d)) = rw (get_or-map pair near k d (0, 0) lt) at (All-get_or are (map pair near) k (0, 0) (omega (arith, length-map near pair, lt)) all) in
+    (omega (arith, here.0, here.1), here.1)
+
+-- ---- forces in lanes
+
+-- each pair has a force
+pub adds_length : (l : ℕ) (found : List FoundPair) (forces : PairForces) → length (adds_from l found forces) ≡ length found
+adds_length l [] forces = refl
+adds_length l (f ∷ found) forces = ap suc (adds_length (suc l) found forces)
+
+adds_get : (l : ℕ) (found : List FoundPair) (forces : PairForces) (k : ℕ) (f : FoundPair) → slice_get found k ≡ Some f
+    → slice_get (adds_from l found forces) k ≡ Some (pair_add f.low f.high (force_in forces (l + k)))
+adds_get l [] forces k f at = absurd (omega (arith, slice_get_within [] k f at))
+adds_get l (g ∷ found) forces zero f at =
+    let here : l ≡ l + 0 = omega arith in
+    ap (λ (h : FoundPair). Some (pair_add h.low h.high (force_in forces l))) (same_Some g f at)
+    ∙ ap (λ n. Some (pair_add f.low f.high (force_in forces n))) here
+adds_get l (g ∷ found) forces (suc k) f at =
+    let next : suc l + k ≡ l + suc k = omega arith in
+    adds_get (suc l) found forces k f at ∙ ap (λ n. Some (pair_add f.low f.high (force_in forces n))) next
+
+-- the force of a pair is in its lane
+pub add_in_lane : (found : List FoundPair) (forces : PairForces) (l : ℕ) (f : FoundPair) → slice_get found l ≡ Some f
+    → slice_get (adds_from 0 found forces) l ≡ Some (pair_add f.low f.high (force_in forces l))
+add_in_lane found forces l f at =
+    let here : 0 + l ≡ l = omega arith in
+    adds_get 0 found forces l f at ∙ ap (λ n. Some (pair_add f.low f.high (force_in forces n))) here
+
 module _ {A : Type 0} (s : System (SlopeKernel A) A) where
+  -- the lanes from l on hold the forces of the pairs
+  abbrev AreForcesFrom : ℕ → List FoundPair → PairForces → Type 0
+  AreForcesFrom l found forces =
+      (k : ℕ) (f : FoundPair) → slice_get found k ≡ Some f → force_in forces (l + k) ≡ force_of f.acting (minus_slope_for s (query_of s f))
+
+  adds_are_from : (l : ℕ) (found : List FoundPair) (forces : PairForces) → AreForcesFrom l found forces → adds_from l found forces ≡ map (add_found s) found
+  adds_are_from l [] forces are = refl
+  adds_are_from l (f ∷ found) forces are =
+      let here : l + 0 ≡ l = omega arith in
+      let first : force_in forces l ≡ force_of f.acting (minus_slope_for s (query_of s f)) = ap (force_in forces) (sym here) ∙ are 0 f refl in
+      let rest : AreForcesFrom (suc l) found forces = λ k g at. let next : suc l + k ≡ l + suc k = omega arith in ap (force_in forces) next ∙ are (suc k) g at in
+      ap₂ (λ (v : Vector ℤ) adds. pair_add f.low f.high v ∷ adds) first (adds_are_from (suc l) found forces rest)
+
+  -- if the lanes hold the forces of the pairs, the round adds these
+  pub adds_are : (found : List FoundPair) (forces : PairForces) → AreFoundForces s found forces → adds_from 0 found forces ≡ map (add_found s) found
+  adds_are found forces are =
+      let first : AreForcesFrom 0 found forces = λ k f at. let here : 0 + k ≡ k = omega arith in ap (force_in forces) here ∙ are k f at in
+      adds_are_from 0 found forces first
+
   -- ---- pairs found
 
   twice : (o : Option ActingPair) (p : ℕ × ℕ)
@@ -155,17 +215,26 @@ module _ {A : Type 0} (s : System (SlopeKernel A) A) where
 
   -- ---- batches
 
-  abbrev unmeasured : List (Option FoundPair) → FoundPairs
-  unmeasured os = record { reach = reach_of s; pairs = acting os; measured = 0 }
+  among_one : (frame : Frame) (p : AtomPair) (near : List AtomPair) (o : Option FoundPair) → found_of s frame (p.low, p.high) ≡ o
+      → found_among (reach_of s) s.ring frame near ≡ found_in s frame (map (λ q. (q.low, q.high)) near)
+      → found_among (reach_of s) s.ring frame (p ∷ near) ≡ found_in s frame (map (λ q. (q.low, q.high)) (p ∷ near))
+  among_one frame p near None e same = rw e same
+  among_one frame p near (Some f) e same = rw e (ap (λ fs. f ∷ fs) same)
 
-  -- a batch of the pairs found among the first l, and the next pair if it interacts
-  pub put_found : (frame : Frame) (ps : List (ℕ × ℕ)) (l : ℕ) (p : ℕ × ℕ) → slice_get ps l ≡ Some p
-      → with_pair (unmeasured (map (found_of s frame) (take l ps))) (found_of s frame p) ≡ unmeasured (map (found_of s frame) (take (l + 1) ps))
-  put_found frame ps l p there =
-      let F = found_of s frame in
-      ap (λ os. with_pair (unmeasured os) (F p)) (sym (take-map F l ps))
-      ∙ (put_next (reach_of s) 0 (map F ps) l (F p) (slice_get-map F ps l ∙ ap (option_map F) there)
-      ∙ ap unmeasured (take-map F (l + 1) ps))
+  -- the interacting pairs of a list of pairs of atoms, by the atoms' indices
+  pub among_in : (frame : Frame) (near : List AtomPair) → found_among (reach_of s) s.ring frame near ≡ found_in s frame (map (λ q. (q.low, q.high)) near)
+  among_in frame [] = refl
+  among_in frame (p ∷ near) = among_one frame p near (found_of s frame (p.low, p.high)) refl (among_in frame near)
+
+  -- the pairs of a batch that has been filled with the first of a list
+  pub batch_found : (frame : Frame) (near : List AtomPair) (tried : ℕ) (d : Reach) (filled found : List FoundPair) → d ≡ reach_of s
+      → filled ≡ found_among d s.ring frame (take tried near) → found ≡ filled → found ≡ found_in s frame (take tried (map (λ q. (q.low, q.high)) near))
+  batch_found frame near tried d filled found reach is same =
+      let pair : AtomPair → ℕ × ℕ = λ q. (q.low, q.high) in
+      same
+      ∙ (is
+      ∙ (ap (λ e. found_among e s.ring frame (take tried near)) reach
+      ∙ (among_in frame (take tried near) ∙ ap (found_in s frame) (sym (take-map pair tried near)))))
 
   -- if a batch of the first m pairs of a list is full, or those are all pairs, then m is at least 128 or their number
   pub all_tried : (frame : Frame) (ps : List (ℕ × ℕ)) (long m : ℕ) (found : List FoundPair) → found ≡ found_in s frame (take m ps)
@@ -212,6 +281,15 @@ module _ {A : Type 0} (s : System (SlopeKernel A) A) where
   pub found_is_pair : (n : ℕ) (f : FoundPair) → IsFound s n f → IsPairOf n (add_found s f)
   found_is_pair n f is = record { ordered = is.ordered; inside = is.inside }
 
+  -- the forces in lanes of pairs found are of pairs of the atoms
+  pub add_is_pair : (n : ℕ) (found : List FoundPair) (forces : PairForces) (l : ℕ) (add : PairAdd) → All (IsFound s n) found → AreFoundForces s found forces
+      → slice_get (adds_from 0 found forces) l ≡ Some add → IsPairOf n add
+  add_is_pair n found forces l add are forced at =
+      let adds = adds_from 0 found forces in
+      let all : All (IsPairOf n) adds =
+      subst (All (IsPairOf n)) (sym (adds_are found forces forced)) (All-map (IsPairOf n) (add_found s) found (λ k d lt. found_is_pair n _ (are k d lt))) in
+      subst (IsPairOf n) (get_or_from_slice_get adds l add add at) (All-get_or (IsPairOf n) adds l add (slice_get_within adds l add at) all)
+
   -- ---- derivatives
 
   -- if the code serves a query, its value is the derivative for the query
@@ -245,19 +323,6 @@ module _ {A : Type 0} (s : System (SlopeKernel A) A) where
       let inside : l < length (map (query_of s) found) = omega (arith, slice_get_within found l f at, length-map found (query_of s)) in
       forced l f at ∙ ap (force_of f.acting) ((are l inside).value ∙ ap (minus_slope_for s) (asked_at found l f at))
 
-  -- the pair that has these atoms
-  pub pair_at : (found : List FoundPair) (l : ℕ) (atoms : ℕ × ℕ) → slice_get (map (λ f. (f.low, f.high)) found) l ≡ Some atoms → (f : FoundPair) × (slice_get found l ≡ Some f)
-  pair_at found l atoms at =
-      let none : FoundPair = record { low = 0; high = 0; acting = record { x = pos 0; y = pos 0; z = pos 0; length = 1; distance = pos 0 } } in
-      let pair : FoundPair → ℕ × ℕ = λ f. (f.low, f.high) in
-      let lt : l < length found = omega (arith, slice_get_within (map pair found) l atoms at, length-map found pair) in
-      (get_or found l none, slice_get-get_or found l none lt)
-
-  same_atoms : (found : List FoundPair) (l : ℕ) (f : FoundPair) (atoms : ℕ × ℕ) → slice_get found l ≡ Some f → slice_get (map (λ f. (f.low, f.high)) found) l ≡ Some atoms → (f.low, f.high) ≡ atoms
-  same_atoms found l f atoms here at =
-      let pair : FoundPair → ℕ × ℕ = λ f. (f.low, f.high) in
-      same_Some (f.low, f.high) atoms (sym (slice_get-map pair found l ∙ ap (option_map pair) here) ∙ at)
-
   same_distance : (found : List FoundPair) (l : ℕ) (f : FoundPair) (r : ℤ) → slice_get found l ≡ Some f → slice_get (map (λ f. f.acting.distance) found) l ≡ Some r → f.acting.distance ≡ r
   same_distance found l f r here at =
       let distance : FoundPair → ℤ = λ f. f.acting.distance in
@@ -278,12 +343,6 @@ module _ {A : Type 0} (s : System (SlopeKernel A) A) where
   pub asked_by : (found : List FoundPair) (l : ℕ) (f : FoundPair) (atoms : ℕ × ℕ) (r : ℤ) → slice_get found l ≡ Some f → slice_get (map (λ f. (f.low, f.high)) found) l ≡ Some atoms → slice_get (map (λ f. f.acting.distance) found) l ≡ Some r
       → record { a = slice_index s.types.items atoms.0; b = slice_index s.types.items atoms.1; r = r } ≡ query_of s f
   asked_by found l f atoms r here at far = rw (← same_atoms found l f atoms here at, ← same_distance found l f r here far) refl
-
-  -- a force by the atoms is the force of the pair
-  pub added_by : (found : List FoundPair) (l : ℕ) (f : FoundPair) (atoms : ℕ × ℕ) (forces : PairForces) (force : Vector ℤ) (add : PairAdd) → slice_get found l ≡ Some f → slice_get (map (λ f. (f.low, f.high)) found) l ≡ Some atoms
-      → AreFoundForces s found forces → force ≡ force_in forces l → add ≡ pair_add atoms.0 atoms.1 force → add ≡ add_found s f
-  added_by found l f atoms forces force add here at are is made =
-      made ∙ (ap (pair_add atoms.0 atoms.1) (is ∙ are l f here) ∙ ap (λ (p : ℕ × ℕ). pair_add p.0 p.1 (force_of f.acting (minus_slope_for s (query_of s f)))) (sym (same_atoms found l f atoms here at)))
 
   -- a pair found gets its force from the derivative for its query
   pub slope_adds : (f : FoundPair) (query : Query) (v minus : ℤ) (force : Vector ℤ) (add : PairAdd) → IsSlope s query v → query ≡ query_of s f → minus ≡ neg_ℤ v → force ≡ force_of f.acting minus

@@ -1,5 +1,5 @@
 -- Interacting pairs in batches: first the geometry of each pair, then the derivative of its energy, then its force.
-use Rattle.std.specs.Prelude.{ℕ, ◌<◌, ◌≤◌, ℤ, ◌≤ℤ◌, ◌<ℤ◌, ◌≡◌, ◌^◌, List, ◌++◌, length, map, neg_ℤ, pos, take, unsigned_abs, Option, Some, slice_get, slice_index, slice_index_or, flat_map}
+use Rattle.std.specs.Prelude.{ℕ, ◌<◌, ◌≤◌, ℤ, ◌≤ℤ◌, ◌<ℤ◌, ◌≡◌, ◌^◌, List, [], ◌∷◌, ◌++◌, length, map, suc, neg_ℤ, pos, take, unsigned_abs, Option, Some, slice_get, slice_index, slice_index_or, flat_map}
 use Rattle.kernel_lanes.specs.declared.queries.Query.{Query}
 use Rattle.kernel_lanes.specs.Flats.{query_at}
 use Rattle.ring_box.specs.Acting.{Reach, force_of}
@@ -15,6 +15,11 @@ use Rattle.frame_sums.specs.Rounds.{pair_add}
 use Rattle.potential.specs.Potentials.{minus, potential_of, slope_at}
 use Rattle.ring_box.specs.declared.found_pairs.FoundPair.{FoundPair}
 use Rattle.potential.specs.declared.slope_kernels.SlopeKernel.{SlopeKernel}
+
+-- the forces of pairs as the round adds them: those in the lanes from l on
+abbrev pub adds_from : (l : ℕ) → List FoundPair → PairForces → List PairAdd
+adds_from l [] forces = []
+adds_from l (f ∷ found) forces = pair_add f.low f.high (force_in forces l) ∷ adds_from (suc l) found forces
 
 module _ {A : Type 0} (s : System (SlopeKernel A) A) where
   -- the range of distances at which pairs interact

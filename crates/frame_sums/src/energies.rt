@@ -12,7 +12,6 @@ use crate::safe_systems::SafeSystem;
 use crate::sums_over_pairs::SumOverPairs;
 use fixed::Fx;
 use potential::LaneKernel;
-use rounds::PairAdd;
 use std::alloc::Allocator;
 
 /// The rule for the energy: the accepted code of a system's energy, whose derivative moves the system's atoms.
@@ -71,7 +70,6 @@ impl<'a, A: Allocator + Copy> SumOverPairs<A, i128> for EnergySum<'a, A> {
         &self,
         system: &SafeSystem<A>,
         scratch: &mut Scratch<B>,
-        _adds: &[PairAdd],
         sum: &mut i128,
     ) {
         let Scratch {

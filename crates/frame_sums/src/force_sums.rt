@@ -10,7 +10,7 @@ use crate::rows::Scratch;
 use crate::safe_systems::SafeSystem;
 use crate::sums_over_pairs::SumOverPairs;
 use ring_box::Vector;
-use rounds::{Forces, PairAdd};
+use rounds::Forces;
 use std::alloc::{AllocError, Allocator};
 
 /// The rule for the forces on all atoms.
@@ -36,11 +36,12 @@ impl<A: Allocator + Copy, C: Allocator + Copy> SumOverPairs<A, Forces<C>> for Fo
     fn add_batch<B: Allocator>(
         &self,
         _system: &SafeSystem<A>,
-        _scratch: &mut Scratch<B>,
-        adds: &[PairAdd],
+        scratch: &mut Scratch<B>,
         sum: &mut Forces<C>,
     ) {
-        sum.add_all(adds);
+        for l in 0..scratch.found.len() {
+            sum.add(&scratch.add_at(l));
+        }
     }
 }
 

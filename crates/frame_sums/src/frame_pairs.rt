@@ -3,7 +3,7 @@
 //! A batch of up to 128 pairs is computed in stages, each for all pairs before the next. Interacting pairs are first
 //! stored contiguously (`FoundPairs`), without a branch to mispredict. The pairs of a kept list are tried until a batch
 //! is full, so only the last batch of a list may have fewer. Then come their lines and distances, their slopes in lanes
-//! (`run_lanes` for flat code, `run_paths` for code with jumps), and the forces to add. Estimates of separations and
+//! (`run_lanes` for flat code, `run_paths` for code with jumps), and the forces, which the scratch keeps. Estimates of separations and
 //! lengths in floating point, made for the distances, also serve the forces. If no pair interacts, no code runs; with
 //! one type of atoms, no type is looked up. The contract of a batch mentions only the plan (`AreNextActing`), so the
 //! sums are the same as pair by pair.
@@ -19,7 +19,7 @@ use crate::safe_systems::SafeSystem;
 use crate::sums_over_pairs::SumOverPairs;
 use cell_tiles::NearPairs;
 use ring_box::{FoundPairs, Place3};
-use rounds::{PairAdd, PairAdds, RowWork, Work};
+use rounds::{PairAdd, RowWork, Work};
 use std::alloc::Allocator;
 
 /// The pairs of the frame that was prepared last.
@@ -81,9 +81,23 @@ impl<'a, A: Allocator + Copy> FramePairs<'a, A> {
 
 // There are two allocators: the work's is only shared by threads, and the scratch's only moves to one.
 impl<'a, A: Allocator + Copy, B: Allocator> RowWork<Scratch<B>> for FramePairs<'a, A> {
+    ghost use Rattle.frame_sums.specs.Rows.{adds_from};
+
+    ghost held = { λ s. adds_from 0 s.found.pairs s.forces };
+
     // Computes geometry, then derivatives, then forces for a batch of pairs.
-    fn next_adds(&self, scratch: &mut Scratch<B>, tile: u64, k: u64, adds: &mut PairAdds) -> u64 {
-        self.find_row(true, tile, k, scratch, adds)
+    fn next_adds(&self, scratch: &mut Scratch<B>, tile: u64, k: u64) -> u64 {
+        self.find_row(true, tile, k, scratch)
+    }
+
+    #[inline(always)]
+    fn count(&self, scratch: &Scratch<B>) -> usize {
+        scratch.found.len()
+    }
+
+    #[inline(always)]
+    fn add_at(&self, scratch: &Scratch<B>, l: usize) -> PairAdd {
+        scratch.add_at(l)
     }
 }
 
@@ -91,7 +105,7 @@ impl<'a, A: Allocator + Copy, B: Allocator> RowWork<Scratch<B>> for FramePairs<'
 
 impl<'a, A: Allocator + Copy> FramePairs<'a, A> {
     ghost use Rattle.std.specs.Prelude.{◌+◌, ◌^◌, ◌++◌, [], IsTrue, List};
-    ghost use Rattle.frame_sums.specs.Rows.{found_in, pairs_found};
+    ghost use Rattle.frame_sums.specs.Rows.{AreFoundForces, found_in, pairs_found};
     ghost use Rattle.ring_box.specs.declared.found_pairs.FoundPair.{FoundPair};
 
     /// Finds the next interacting pairs, with their forces if they are needed, and returns the number of the pair to
@@ -103,7 +117,6 @@ impl<'a, A: Allocator + Copy> FramePairs<'a, A> {
         tile: u64,
         k: u64,
         scratch: &mut Scratch<B>,
-        adds: &mut PairAdds,
     ) -> u64
         requires tile { tile < length (lists_of self.now.system.now.lists) }
         requires start { k < length (list_at self.now.system.now.lists tile) }
@@ -115,22 +128,20 @@ impl<'a, A: Allocator + Copy> FramePairs<'a, A> {
         ensures measured { scratch.new.found.measured ≡ length scratch.new.found.pairs }
         ensures found { All (IsFound self.now.system.now.system (length self.now.frame.now)) scratch.new.found.pairs }
         ensures few { length scratch.new.found.pairs ≤ 128 }
-        ensures forces { IsTrue forces → adds.new.items
-            ≡ map (add_found self.now.system.now.system) scratch.new.found.pairs }
+        ensures forces { IsTrue forces → AreFoundForces self.now.system.now.system scratch.new.found.pairs scratch.new.forces }
     {
         let next = self.find(tile, k, &mut scratch.near, &mut scratch.found);
         if forces {
-            self.system.adds(scratch, adds);
+            self.system.forces(scratch);
         }
         next
     }
 
-    /// Adds the pairs of a tile to a sum. `adds` is work space.
+    /// Adds the pairs of a tile to a sum.
     fn add_tile<B: Allocator, S, T: SumOverPairs<A, S>>(
         &self,
         rule: &T,
         scratch: &mut Scratch<B>,
-        adds: &mut PairAdds,
         tile: u64,
         sum: &mut S,
     )
@@ -146,8 +157,8 @@ impl<'a, A: Allocator + Copy> FramePairs<'a, A> {
         let pairs = self.pairs(tile);
         let mut k = 0;
         while k < pairs {
-            k = self.find_row(T::needs_forces(), tile, k, scratch, adds);
-            rule.add_batch(self.system, scratch, adds.as_slice(), sum);
+            k = self.find_row(T::needs_forces(), tile, k, scratch);
+            rule.add_batch(self.system, scratch, sum);
         }
     }
 
@@ -163,9 +174,8 @@ impl<'a, A: Allocator + Copy> FramePairs<'a, A> {
         ensures { T.is_sum rule.now self.now.system.now.system
             (pairs_found self.now.system.now.system self.now.frame.now (lists_of self.now.system.now.lists)) sum.new }
     {
-        let mut adds = PairAdds::new();
         for tile in 0..self.tiles() {
-            self.add_tile(rule, scratch, &mut adds, tile, sum);
+            self.add_tile(rule, scratch, tile, sum);
         }
     }
 }

@@ -1,6 +1,6 @@
 //! Interacting pairs in batches of at most 128, and a worker's scratch memory for them.
 //!
-//! Scratch (346 kB) outlives a step, and changes no result. A team (`Crew`) has it on the heap.
+//! Scratch (352 kB) outlives a step, and changes no result. A team (`Crew`) has it on the heap.
 
 ghost use Rattle.std.specs.Prelude.{◌≡◌, ◌<◌, ◌^◌, neg_ℤ, unsigned_abs};
 ghost use Rattle.frame_sums.specs.Rounds.{pair_add};
@@ -36,7 +36,7 @@ pub(crate) fn opposite(slope: Fx) -> Fx
 }
 
 /// A worker's scratch for a batch: pairs that may interact, the pairs found to interact, their queries, the derivatives
-/// for the queries, and memory for runs in lanes.
+/// for the queries, the pairs' forces, and memory for runs in lanes.
 #[derive(Drop)]
 pub struct Scratch<A: Allocator> {
     pub near: NearPairs,
@@ -48,6 +48,19 @@ pub struct Scratch<A: Allocator> {
 }
 
 impl<A: Allocator> Scratch<A> {
+    ghost use Rattle.std.specs.Prelude.{Some, length, slice_get};
+    ghost use Rattle.frame_sums.specs.Rows.{adds_from};
+
+    /// The force of the pair with the index `l`, as the round adds it.
+    #[inline(always)]
+    pub(crate) fn add_at(&self, l: usize) -> PairAdd
+        requires { l < length (adds_from 0 self.now.found.pairs self.now.forces) }
+        ensures { slice_get (adds_from 0 self.now.found.pairs self.now.forces) l ≡ Some result }
+    {
+        let (low, high) = self.found.atoms(l);
+        added(low, high, self.forces.force(l))
+    }
+
     /// Scratch with this memory for runs in lanes. The caller stores the result on the heap at once: it is 25 kB.
     #[inline(never)]
     pub(crate) fn with_rows(rows: LaneRows<A>) -> Scratch<A> {

@@ -10,15 +10,14 @@ ghost use Rattle.frame_sums.specs.Rows.{reach_of};
 ghost use Rattle.frame_sums.specs.SafeSystems.{IsSafeSystem};
 
 use crate::rows::{Scratch, added, opposite};
-use cell_tiles::AtomPair;
 use fixed::Fx;
 use integrator::{System, TypedAtoms};
 use kernel_lanes::Query;
 use kernel_machine::Stack;
 use pair_lists::PairLists;
 use potential::SlopeKernel;
-use ring_box::{FoundPairs, PairForces, Place3, Reach, RingBox, Vector};
-use rounds::{PairAdd, PairAdds};
+use ring_box::{AtomPair, FoundPairs, Place3, Reach, RingBox, Vector};
+use rounds::PairAdd;
 use std::alloc::{AllocError, Allocator};
 
 /// A system with accepted slope code for its atoms and distances, in a box with room for two cutoffs along each side,
@@ -55,7 +54,7 @@ impl<A: Allocator + Copy> SafeSystem<A> {
     ghost use Rattle.kernel_lanes.specs.Lanes.{IsServed};
     ghost use Rattle.ring_box.specs.Acting.{limit_of};
     ghost use Rattle.frame_sums.specs.Rounds.{add_of, forces_from};
-    ghost use Rattle.frame_sums.specs.Rows.{AreFoundForces, IsFound, add_found, query_of, found_in, reach_of};
+    ghost use Rattle.frame_sums.specs.Rows.{AreFoundForces, IsFound, query_of, found_in, reach_of};
     ghost use Rattle.frame_sums.specs.SafeSystems.{HasAtoms, IsSafeWith, safe_dynamics};
 
     /// A system whose code is accepted, with no pairs yet. `AllocError`: memory ran out.
@@ -122,33 +121,6 @@ impl<A: Allocator + Copy> SafeSystem<A> {
         Reach::new(system.frac, Fx::from_raw(0), system.core).limit()
     }
 
-    /// Appends the first interacting pairs of a list to an empty batch, until the batch is full or the list ends. Returns
-    /// the number of pairs tried.
-    fn fill(&self, frame: &[Place3], near: &[AtomPair], found: &mut FoundPairs) -> usize
-        requires empty { found.old ≡ record { reach = reach_of self.now.system; pairs = []; measured = 0 } }
-        requires pairs { All (IsPairOf (length frame.now)) (map (λ p. (p.low, p.high)) near.now) }
-        ensures tried { result ≤ length near.now }
-        ensures found { found.new ≡ record {
-          reach = reach_of self.now.system;
-          pairs = found_in self.now.system frame.now (take result (map (λ p. (p.low, p.high)) near.now));
-          measured = 0;
-        } }
-        ensures full { result < length near.now → length found.new.pairs ≡ 128 }
-        ensures few { length found.new.pairs ≤ 128 }
-    {
-        let ring = self.system.ring;
-        for l in 0..near.len() {
-            if found.len() == 128 {
-                return l;
-            }
-            let AtomPair { low, high } = near[l];
-            let x = frame[low as usize];
-            let y = frame[high as usize];
-            found.put(&ring, low, high, x, y);
-        }
-        near.len()
-    }
-
     /// Finds the first interacting pairs of a list, with their geometry: a batch of 128, or all if there are fewer.
     /// Returns the number of pairs tried: the rest of the list is the next batch's.
     pub(crate) fn find_batch(
@@ -169,7 +141,7 @@ impl<A: Allocator + Copy> SafeSystem<A> {
         ensures few { length found.new.pairs ≤ 128 }
     {
         found.clear(reach);
-        let tried = self.fill(frame, near, found);
+        let tried = found.fill(&self.system.ring, frame, near);
         found.measure();
         tried
     }
@@ -230,25 +202,12 @@ impl<A: Allocator + Copy> SafeSystem<A> {
         }
     }
 
-    /// The forces of the pairs found as the round adds them.
-    fn add_all(&self, found: &FoundPairs, forces: &PairForces, adds: &mut PairAdds)
-        requires few { length found.now.pairs ≤ 128 }
-        requires forces { AreFoundForces self.now.system found.now.pairs forces.now }
-        ensures { adds.new.items ≡ map (add_found self.now.system) found.now.pairs }
-    {
-        adds.clear();
-        for l in 0..found.len() {
-            let (low, high) = found.atoms(l);
-            adds.push(added(low, high, forces.force(l)));
-        }
-    }
-
-    /// The forces of the pairs found. If there are none, no code runs.
-    pub(crate) fn adds<B: Allocator>(&self, scratch: &mut Scratch<B>, adds: &mut PairAdds)
+    /// Writes the forces of the pairs found. If there are none, no code runs.
+    pub(crate) fn forces<B: Allocator>(&self, scratch: &mut Scratch<B>)
         requires measured { scratch.old.found.measured ≡ length scratch.old.found.pairs }
         requires found { All (IsFound self.now.system (length self.now.system.types.items)) scratch.old.found.pairs }
         requires bound { self.now.system.kernel.verified.bound < 2 ^ 63 }
-        ensures forces { adds.new.items ≡ map (add_found self.now.system) scratch.old.found.pairs }
+        ensures forces { AreFoundForces self.now.system scratch.old.found.pairs scratch.new.forces }
         ensures found { scratch.new.found ≡ scratch.old.found }
     {
         let Scratch {
@@ -260,7 +219,6 @@ impl<A: Allocator + Copy> SafeSystem<A> {
             ..
         } = scratch;
         if found.len() == 0 {
-            adds.clear();
             return;
         }
         self.query_all(found, queries);
@@ -269,7 +227,6 @@ impl<A: Allocator + Copy> SafeSystem<A> {
             .verified
             .values(&queries[..found.len()], rows, slopes);
         found.forces(slopes, forces);
-        self.add_all(found, forces, adds);
     }
 
     /// Replaces the frame `before` by the frame after `before` and `middle`; `sums` are the forces on the atoms at

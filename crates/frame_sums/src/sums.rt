@@ -180,12 +180,11 @@ impl<'a, A: Allocator + Copy> SumOverPairs<A, PairSums> for BoxFrame<'a> {
     fn add_batch<B: Allocator>(
         &self,
         _system: &SafeSystem<A>,
-        _scratch: &mut Scratch<B>,
-        adds: &[PairAdd],
+        scratch: &mut Scratch<B>,
         sum: &mut PairSums,
     ) {
-        for k in 0..adds.len() {
-            *sum = plus_sums(*sum, self.sums_of(&adds[k]));
+        for k in 0..scratch.found.len() {
+            *sum = plus_sums(*sum, self.sums_of(&scratch.add_at(k)));
         }
     }
 }

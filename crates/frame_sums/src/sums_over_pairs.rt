@@ -5,15 +5,14 @@
 //! sum: adding a batch turns the sum of some pairs into the sum of these pairs followed by the batch. The pairs are
 //! listed tile by tile, in the same order until the next frame is prepared.
 
-ghost use Rattle.std.specs.Prelude.{◌≡◌, ◌+◌, ◌^◌, ◌<◌, ◌≤◌, ◌++◌, Bool, IsTrue, List, length, map, All};
+ghost use Rattle.std.specs.Prelude.{◌≡◌, ◌+◌, ◌^◌, ◌<◌, ◌≤◌, ◌++◌, Bool, IsTrue, List, length, All};
 ghost use Rattle.integrator.specs.declared.systems.System.{System};
 ghost use Rattle.potential.specs.declared.slope_kernels.SlopeKernel.{SlopeKernel};
 ghost use Rattle.ring_box.specs.declared.found_pairs.FoundPair.{FoundPair};
-ghost use Rattle.frame_sums.specs.Rows.{IsFound, add_found};
+ghost use Rattle.frame_sums.specs.Rows.{AreFoundForces, IsFound};
 
 use crate::rows::Scratch;
 use crate::safe_systems::SafeSystem;
-use rounds::PairAdd;
 use std::alloc::Allocator;
 
 /// A rule for a sum `S` over the interacting pairs of a frame.
@@ -33,26 +32,21 @@ pub(crate) trait SumOverPairs<A: Allocator + Copy, S> {
     fn needs_forces() -> bool
         ensures { result ≡ needs };
 
-    /// Adds the pairs of a batch, with their forces if the rule needs them. The pairs are those in `scratch`, whose
-    /// other parts may be overwritten. The sum has had fewer than 2^32 pairs in all.
-    fn add_batch<B: Allocator>(
-        &self,
-        system: &SafeSystem<A>,
-        scratch: &mut Scratch<B>,
-        adds: &[PairAdd],
-        sum: &mut S,
-    )
+    /// Adds the pairs of a batch, with their forces if the rule needs them. Pairs and forces are those in `scratch`,
+    /// whose other parts may be overwritten. The sum has had fewer than 2^32 pairs in all.
+    fn add_batch<B: Allocator>(&self, system: &SafeSystem<A>, scratch: &mut Scratch<B>, sum: &mut S)
         requires own { is_for self.now system.now.system }
         requires measured { scratch.old.found.measured ≡ length scratch.old.found.pairs }
         requires found { All (IsFound system.now.system (length system.now.system.types.items))
             scratch.old.found.pairs }
         requires few { length scratch.old.found.pairs ≤ 128 }
-        requires forces { IsTrue needs → adds.now ≡ map (add_found system.now.system) scratch.old.found.pairs }
+        requires forces { IsTrue needs → AreFoundForces system.now.system scratch.old.found.pairs scratch.old.forces }
         requires room { (done : List FoundPair) × is_sum self.now system.now.system done sum.old
             × (length done + length scratch.old.found.pairs < 2 ^ 32) }
         ensures sum { (done : List FoundPair) → is_sum self.now system.now.system done sum.old
             → is_sum self.now system.now.system (done ++ scratch.old.found.pairs) sum.new }
-        ensures found { scratch.new.found ≡ scratch.old.found };
+        ensures found { scratch.new.found ≡ scratch.old.found }
+        ensures same { scratch.new.forces ≡ scratch.old.forces };
 }
 
 /// Two rules, whose sums are computed together.
@@ -84,10 +78,9 @@ impl<'a, A: Allocator + Copy, S, T: SumOverPairs<A, S>, Z, U: SumOverPairs<A, Z>
         &self,
         system: &SafeSystem<A>,
         scratch: &mut Scratch<B>,
-        adds: &[PairAdd],
         sum: &mut (S, Z),
     ) {
-        self.first.add_batch(system, scratch, adds, &mut sum.0);
-        self.second.add_batch(system, scratch, adds, &mut sum.1);
+        self.first.add_batch(system, scratch, &mut sum.0);
+        self.second.add_batch(system, scratch, &mut sum.1);
     }
 }

@@ -4,7 +4,7 @@ ghost use Rattle.std.specs.Prelude.{◌&&◌, map, Option, Some, None, IfSome, n
 ghost use Rattle.std.specs.Option.{option_and_then};
 ghost use Rattle.rounds.specs.Tiles.{IsPairOf};
 
-use rounds::{PairAdd, RowWork, Work};
+use rounds::{PairAdd, PairAdds, RowWork, Work, next_from_pairs};
 
 // Work whose tiles are lists of pairs. An entry that isn't a pair of the atoms is skipped.
 #[derive(Drop)]
@@ -39,4 +39,18 @@ pub(crate) fn add(low: u32, high: u32, force: [i64; 3]) -> Option<PairAdd> {
     Some(PairAdd { low, high, force })
 }
 
-impl RowWork<()> for Listed {}
+impl RowWork<PairAdds> for Listed {
+    ghost held = { λ s. s.items };
+
+    fn next_adds(&self, scratch: &mut PairAdds, tile: u64, k: u64) -> u64 {
+        next_from_pairs(self, tile, k, scratch)
+    }
+
+    fn count(&self, scratch: &PairAdds) -> usize {
+        scratch.as_slice().len()
+    }
+
+    fn add_at(&self, scratch: &PairAdds, l: usize) -> PairAdd {
+        scratch.as_slice()[l]
+    }
+}

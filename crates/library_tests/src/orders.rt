@@ -6,7 +6,7 @@ use crate::listed::{Listed, add};
 use crate::pools::come_to;
 use crate::recorded::Record;
 use round_model::Round;
-use rounds::{Event, Work};
+use rounds::{Event, PairAdds, Work};
 use std::alloc::{AllocError, Global};
 use std::test::Fail;
 
@@ -102,7 +102,7 @@ fn orders(alloc: Global, work: &Listed, events: &mut Vec<Event>, left: usize) ->
 fn every_order_ends_with_the_sums_of_the_pool(rt: HostRuntime) -> Result<(), Fail> {
     let alloc = rt.alloc();
     let work = two_tiles(alloc)?;
-    let scratches = &mut [(); 2];
+    let scratches = &mut [PairAdds::new(), PairAdds::new()];
     assert!(rt; come_to(&rt, alloc, &work, scratches, &Record::new(0), &SUMS)?);
     let count = orders(alloc, &work, &mut Vec::new(alloc), EVENTS);
     assert!(rt; count == Some(12_884), "{count:?}");

@@ -1,9 +1,10 @@
 //! Thread pools: that they visit each pair once, and that workers run at the same time.
 
-ghost use Rattle.std.specs.Prelude.{◌≡◌, ◌*◌, ◌<◌, ◌≤◌, length, IfOk};
+ghost use Rattle.std.specs.Prelude.{◌≡◌, ◌*◌, ◌<◌, ◌≤◌, length, All, IfOk};
+ghost use Rattle.rounds.specs.Tiles.{IsPairOf};
 
 use crate::listed::{Listed, add};
-use crate::recorded::{Record, Recorded};
+use crate::recorded::{Numbered, Record, Recorded};
 use rounds::{Forces, Memory, PairAdds, RowWork, Work, forces};
 use std::alloc::{AllocError, Allocator, Global};
 use std::sync::atomic::Ordering;
@@ -29,6 +30,18 @@ pub(crate) fn come_to<R: Threads + Sync, A: Allocator + Copy, S: Send, W: RowWor
     Ok(together.as_slice() == sums)
 }
 
+/// Adds the forces that the scratch holds on one thread, if the sums have room for them.
+fn add_held<S, W: RowWork<S>>(alone: &mut Forces<Global>, work: &W, scratch: &S, atoms: u32)
+    requires pairs { All (IsPairOf (W.atoms work.now)) (W.held scratch.now) }
+    requires atoms { W.atoms work.now ≤ atoms }
+{
+    for l in 0..work.count(scratch) {
+        if 3 * atoms as usize <= alone.as_slice().len() {
+            alone.add(&work.add_at(scratch, l));
+        }
+    }
+}
+
 /// Adds the forces of a tile's pairs on one thread, if the sums have room for them.
 fn add_tile<S, W: RowWork<S>>(
     alone: &mut Forces<Global>,
@@ -40,13 +53,12 @@ fn add_tile<S, W: RowWork<S>>(
     requires tile { tile < length (W.plan work.now) }
     requires atoms { W.atoms work.now ≤ atoms }
 {
-    let mut adds = PairAdds::new();
     let pairs = work.pairs(tile);
     let mut k = 0;
     for _ in 0..pairs {
-        if k < pairs && 3 * atoms as usize <= alone.as_slice().len() {
-            k = work.next_adds(scratch, tile, k, &mut adds);
-            alone.add_all(adds.as_slice());
+        if k < pairs {
+            k = work.next_adds(scratch, tile, k);
+            add_held(alone, work, scratch, atoms);
         }
     }
 }
@@ -84,6 +96,28 @@ fn pushes(alloc: Global, tiles: u32, pairs: usize) -> Result<Listed, AllocError>
     })
 }
 
+/// Empty scratches of this many workers.
+fn empty(alloc: Global, workers: usize) -> Result<Vec<PairAdds>, AllocError>
+    ensures { IfOk result (λ v. length v.items ≡ workers) }
+{
+    let mut all = Vec::new(alloc);
+    for _ in 0..workers {
+        all.push(PairAdds::new())?;
+    }
+    Ok(all)
+}
+
+/// Empty scratches of this many workers, numbered from 0.
+fn numbered(alloc: Global, workers: u32) -> Result<Vec<Numbered>, AllocError>
+    ensures { IfOk result (λ v. length v.items ≡ workers) }
+{
+    let mut all = Vec::new(alloc);
+    for worker in 0..workers {
+        all.push(Numbered::new(worker))?;
+    }
+    Ok(all)
+}
+
 /// The sums of six tiles of 188 such pairs.
 const SIX_TILES: [i64; 6] = [1128, 2256, 3384, -1128, -2256, -3384];
 
@@ -95,7 +129,8 @@ fn visit_each_once<R: Threads + Sync + AllocGlobal>(rt: &R, workers: usize) -> R
 {
     let record = Record::new(0);
     let work = Recorded::new(pushes(rt.alloc(), 6, 188)?, &record);
-    let scratches = &mut [(); 64][..workers];
+    let mut scratches = empty(rt.alloc(), workers)?;
+    let scratches = scratches.as_mut_slice();
     let same = come_to(rt, rt.alloc(), &work, scratches, &record, &SIX_TILES)?;
     Ok(same && record.has_counted(1128, 6))
 }
@@ -111,7 +146,7 @@ fn visits_each_pair_once_behind_the_gate(rt: HostRuntime) -> Result<(), Fail> {
 #[test]
 fn asks_for_rows_alone(rt: HostRuntime) -> Result<(), Fail> {
     assert!(rt; alone_asks_for_rows(rt.alloc())?);
-    for workers in [1, 2, 3, 64] {
+    for workers in [1u32, 2, 3, 64] {
         assert!(rt; ask_for_rows(&rt, workers)?);
     }
     Ok(())
@@ -121,18 +156,19 @@ fn asks_for_rows_alone(rt: HostRuntime) -> Result<(), Fail> {
 fn alone_asks_for_rows(alloc: Global) -> Result<bool, AllocError> {
     let record = Record::new(0);
     let work = Recorded::new(pushes(alloc, 6, 188)?, &record);
-    let same = comes_to(alloc, &work, &mut 0u32, 2, &SIX_TILES);
+    let same = comes_to(alloc, &work, &mut Numbered::new(0), 2, &SIX_TILES);
     Ok(same && record.visits.load(Ordering::SeqCst) == 0)
 }
 
 /// Whether this many workers visit no pair singly.
-fn ask_for_rows<R: Threads + Sync + AllocGlobal>(rt: &R, workers: usize) -> Result<bool, Memory>
+fn ask_for_rows<R: Threads + Sync + AllocGlobal>(rt: &R, workers: u32) -> Result<bool, Memory>
     requires some { 0 < workers }
     requires few { workers ≤ 64 }
 {
     let record = Record::new(0);
     let work = Recorded::new(pushes(rt.alloc(), 6, 188)?, &record);
-    let scratches = &mut [0u32; 64][..workers];
+    let mut scratches = numbered(rt.alloc(), workers)?;
+    let scratches = scratches.as_mut_slice();
     let same = come_to(rt, rt.alloc(), &work, scratches, &record, &SIX_TILES)?;
     Ok(same && record.visits.load(Ordering::SeqCst) == 0)
 }
@@ -144,7 +180,8 @@ fn are_at_once<R: Threads + Sync + AllocGlobal>(rt: &R, workers: u32) -> Result<
 {
     let record = Record::new(workers);
     let work = Recorded::new(pushes(rt.alloc(), workers, 1)?, &record);
-    let scratches = &mut [(); 64][..workers as usize];
+    let mut scratches = empty(rt.alloc(), workers as usize)?;
+    let scratches = scratches.as_mut_slice();
     let t = i64::from(workers);
     let sums = [t, 2 * t, 3 * t, -t, -2 * t, -3 * t];
     let same = come_to(rt, rt.alloc(), &work, scratches, &Record::new(0), &sums)?;
@@ -164,7 +201,8 @@ fn workers_are_in_pairs_at_once(rt: HostRuntime) -> Result<(), Fail> {
 fn tells_the_gate_who_draws(rt: HostRuntime) -> Result<(), Fail> {
     let record = Record::new(8);
     let work = Recorded::new(pushes(rt.alloc(), 8, 1)?, &record);
-    let scratches = &mut [0u32, 1, 2, 3, 4, 5, 6, 7];
+    let mut scratches = numbered(rt.alloc(), 8)?;
+    let scratches = scratches.as_mut_slice();
     let sums = [8, 16, 24, -8, -16, -24];
     let same = come_to(&rt, rt.alloc(), &work, scratches, &record, &sums)?;
     assert!(rt; same && record.has_counted(0, 8));

@@ -2,7 +2,7 @@
 
 ghost use Rattle.std.specs.Prelude.{◌<◌};
 
-use rounds::{Gate, PairAdd, PairAdds, RowWork, Work};
+use rounds::{Gate, PairAdd, PairAdds, RowWork, Work, next_from_pairs};
 use std::sync::atomic::{AtomicU64, Ordering};
 use std::thread::yield_now;
 
@@ -131,13 +131,54 @@ impl<'a, W: Work + Drop> Work for Recorded<'a, W> {
     }
 }
 
-impl<'a, W: Work + Drop> RowWork<()> for Recorded<'a, W> {}
+impl<'a, W: Work + Drop> RowWork<PairAdds> for Recorded<'a, W> {
+    ghost held = { λ s. s.items };
 
-impl<'a, W: RowWork<()> + Drop> RowWork<u32> for Recorded<'a, W> {
-    fn next_adds(&self, scratch: &mut u32, tile: u64, k: u64, adds: &mut PairAdds) -> u64 {
-        if self.record.drawers.load(Ordering::SeqCst) & mark(*scratch, tile) == 0 {
+    fn next_adds(&self, scratch: &mut PairAdds, tile: u64, k: u64) -> u64 {
+        next_from_pairs(self, tile, k, scratch)
+    }
+
+    fn count(&self, scratch: &PairAdds) -> usize {
+        scratch.as_slice().len()
+    }
+
+    fn add_at(&self, scratch: &PairAdds, l: usize) -> PairAdd {
+        scratch.as_slice()[l]
+    }
+}
+
+/// The scratch of a worker, with the worker's number.
+#[derive(Drop)]
+pub(crate) struct Numbered {
+    worker: u32,
+    adds: PairAdds,
+}
+
+impl Numbered {
+    /// An empty scratch of a worker.
+    pub(crate) fn new(worker: u32) -> Numbered {
+        Numbered {
+            worker,
+            adds: PairAdds::new(),
+        }
+    }
+}
+
+impl<'a, W: RowWork<PairAdds> + Drop> RowWork<Numbered> for Recorded<'a, W> {
+    ghost held = { λ s. W.held s.adds };
+
+    fn next_adds(&self, scratch: &mut Numbered, tile: u64, k: u64) -> u64 {
+        if self.record.drawers.load(Ordering::SeqCst) & mark(scratch.worker, tile) == 0 {
             self.record.early.fetch_add(1, Ordering::SeqCst);
         }
-        self.work.next_adds(&mut (), tile, k, adds)
+        self.work.next_adds(&mut scratch.adds, tile, k)
+    }
+
+    fn count(&self, scratch: &Numbered) -> usize {
+        self.work.count(&scratch.adds)
+    }
+
+    fn add_at(&self, scratch: &Numbered, l: usize) -> PairAdd {
+        self.work.add_at(&scratch.adds, l)
     }
 }

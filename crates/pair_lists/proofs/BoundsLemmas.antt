@@ -2,7 +2,7 @@
 use Rattle.std.proofs.Common.{◌≡◌, ℕ, ◌-◌, ◌<◌, ◌≤◌, Bool, true, false, List, [], ◌∷◌, ◌++◌, length, take, drop, map, arith, refl, ap, sym, ◌∙◌, if◌then◌else◌, slice_index_or, All}
 use Rattle.std.proofs.lemmas.List.{drop-append-le, drop-map, get_or-map, length-drop, length-map, map-append, take-append-le, take-map}
 use Rattle.std.proofs.lemmas.List.Elements.{All-head, All-tail}
-use Rattle.cell_tiles.specs.declared.pairs.AtomPair.{AtomPair}
+use Rattle.ring_box.specs.declared.pairs.AtomPair.{AtomPair}
 use Rattle.pair_lists.specs.Lists.{part_of}
 
 -- bounds in a list of this length

@@ -12,7 +12,7 @@ use Rattle.ring_box.specs.declared.vectors.Place3.{Place3}
 use Rattle.cell_tiles.specs.Cells.{AreBeside, CellAtoms, IsGrid, members_of}
 use Rattle.cell_tiles.specs.Near.{pair_acts}
 use Rattle.cell_tiles.specs.Tiles.{pairs_in, tile_pairs, tiles_of}
-use Rattle.cell_tiles.specs.declared.pairs.AtomPair.{AtomPair}
+use Rattle.ring_box.specs.declared.pairs.AtomPair.{AtomPair}
 use Rattle.pair_lists.specs.Lists.{AreListsOf, tiles_in}
 use Rattle.pair_lists.specs.Margins.{AreKept, IsMargin}
 use Rattle.pair_lists.specs.PairLists.{FitTogether, IsPrepared, PreparedPairs, list_at, lists_of}

@@ -3,7 +3,7 @@
 ghost use Rattle.std.specs.Prelude.{◌≡◌, ◌<◌, ◌^◌, [], ◌++◌, length, map, slice_index_or, OnErr, OnOk};
 ghost use Rattle.pair_lists.specs.Lists.{closed_from};
 
-use cell_tiles::AtomPair;
+use ring_box::AtomPair;
 use std::alloc::{AllocError, Allocator};
 use std::marker::Model;
 

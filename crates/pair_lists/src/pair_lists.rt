@@ -12,10 +12,10 @@ ghost use Rattle.pair_lists.specs.PairLists.{IsPrepared, list_at, lists_of};
 
 use crate::listed_pairs::ListedPairs;
 use crate::wide_cells::WideCells;
-use cell_tiles::{AtomPair, Cells, FrameInBox, Grid, NearPairs, Tiles};
+use cell_tiles::{Cells, FrameInBox, Grid, NearPairs, Tiles};
 use fixed::{Frac, Fx};
 use place_blocks::CoarseReach;
-use ring_box::{Place3, Reach, RingBox};
+use ring_box::{AtomPair, Place3, Reach, RingBox};
 use std::alloc::{AllocError, Allocator};
 use std::marker::Model;
 

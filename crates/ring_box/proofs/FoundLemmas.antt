@@ -1,12 +1,12 @@
 -- Pairs of atoms that interact, stored one after the other.
-use Rattle.std.proofs.Common.{◌≡◌, ◌≢◌, ◌∙◌, ℕ, ◌+◌, ◌-◌, ◌*◌, ◌^◌, ◌<◌, ◌≤◌, ◌⊎◌, inl, inr, ltb, Bool, true, false, List, [], ◌∷◌, length, length-set, map, take, set, get_or, option_map, Option, Some, None, ℤ, pos, ap, sym, refl, arith, subst, neg_ℤ}
-use Rattle.std.specs.Prelude.{slice_get, slice_index_or, unsigned_abs, IfSome, IsTrue, ◌*ℤ◌}
+use Rattle.std.proofs.Common.{◌≡◌, ◌≢◌, ◌∙◌, ℕ, ◌+◌, ◌-◌, ◌*◌, ◌^◌, ◌<◌, ◌≤◌, ◌⊎◌, inl, inr, ltb, Bool, true, false, List, [], ◌∷◌, ◌++◌, append-nil, ap₂, length, length-set, map, take, set, get_or, option_map, Option, Some, None, ℤ, pos, ap, sym, refl, arith, subst, neg_ℤ}
+use Rattle.std.specs.Prelude.{filter_map, option_to_list, slice_get, slice_index_or, unsigned_abs, IfSome, IsTrue, ◌*ℤ◌}
 use Rattle.std.specs.Int.{from_bool, int_max}
 use Rattle.std.specs.Float.Ieee.{Float, nan}
 use Rattle.std.proofs.lemmas.Bool.{cases_eq, cases_lt, ltb-true, ltb-false}
 use Rattle.std.proofs.lemmas.Nat.{mul-le}
-use Rattle.std.proofs.lemmas.List.{get_or-map, get_or-set_other, get_or-set_same, get_or-take, length-map, length-take-le, map-append, take-set, take_more_set}
-use Rattle.std.proofs.lemmas.List.Elements.{All-get_or, All-push}
+use Rattle.std.proofs.lemmas.List.{get_or-map, get_or-set_other, get_or-set_same, get_or-take, length-map, length-take-le, map-append, take-set, take_more, take_more_set}
+use Rattle.std.proofs.lemmas.List.Elements.{All-get_or, All-push, filter_map-append}
 use Rattle.std.proofs.lemmas.Option.{same_Some, slice_get-get_or, slice_get-map, slice_get_within}
 use Rattle.fixed.specs.Roots.{root}
 use Rattle.fixed.specs.Rounding.{IsFloor}
@@ -23,12 +23,14 @@ use Rattle.ring_box.specs.FloatReaches.{IsFilter, IsReachSlack, taken_at}
 use Rattle.ring_box.specs.FloatRows.{IsWithFour}
 use Rattle.ring_box.specs.FloatSeparations.{IsNearSeparation, squares_of}
 use Rattle.ring_box.specs.Forces.{component_of, line_force_of}
-use Rattle.ring_box.specs.FoundPairs.{AreApart, AreExactPut, AreExactlyMeasured, AreFourForces, AreForcesBefore, AreFourMeasured, AreFourPut, AreHeld, AreInReach, AreMeasured, AreMeasuredBefore, AreNearLengths, AreNearPairs, FoundPairs, IsBelowLimit, IsForceAt, IsMeasured, IsNearPair, force_of_four, found_from, found_pair_of, line_force_on, squared, with_pair}
+use Rattle.ring_box.specs.FoundPairs.{AreApart, AreExactPut, AreExactlyMeasured, AreFourForces, AreForcesBefore, AreFourMeasured, AreFourPut, AreHeld, AreInReach, AreMeasured, AreMeasuredBefore, AreNearLengths, AreNearPairs, FoundPairs, IsBelowLimit, IsForceAt, IsMeasured, IsNearPair, force_of_four, found_among, found_at, found_from, found_pair_of, line_force_on, squared}
+use Rattle.ring_box.specs.Places.{places_of}
 use Rattle.ring_box.specs.PairForces.{IsWithForce, IsWithForces, force_in}
 use Rattle.ring_box.specs.declared.boxes.RingBox.{RingBox}
 use Rattle.ring_box.specs.declared.found_pairs.FoundPair.{FoundPair}
 use Rattle.ring_box.specs.declared.found_pairs.PairInReach.{PairInReach}
 use Rattle.ring_box.specs.declared.pair_forces.PairForces.{PairForces}
+use Rattle.ring_box.specs.declared.pairs.AtomPair.{AtomPair}
 use Rattle.ring_box.specs.declared.separations.FloatSeparation.{FloatSeparation}
 use Rattle.ring_box.specs.declared.vectors.Place3.{Place3}
 use Rattle.ring_box.specs.declared.vectors.Vector.{Vector}
@@ -76,10 +78,6 @@ counted_most : (n : ℕ) (near : Bool) → n + from_bool near ≤ n + 1
 counted_most n true = omega arith
 counted_most n false = omega arith
 
-counted_least : (n : ℕ) (near : Bool) → n ≤ n + from_bool near
-counted_least n true = omega arith
-counted_least n false = omega arith
-
 -- one more pair, and floats near it
 with_floats : (n m : ℕ) (pairs : List PairInReach) (x y z squares : List Float) (v : PairInReach) (a b c s : Float) → n < 128 → m ≤ n + 1 → length pairs ≡ 128 → AreNearPairs n pairs x y z squares → IsNearPair v a b c s
     → AreNearPairs m (set pairs n v) (set x n a) (set y n b) (set z n c) (set squares n s)
@@ -106,28 +104,70 @@ counted_held d n pairs x y z squares v a b c s near e room is are = record {
   floats = with_floats n (n + from_bool near) pairs x y z squares v a b c s room (counted_most n near) are.held.lanes are.floats is;
 }
 
--- the measured pairs stay measured if a pair is stored after the held pairs
-pub counted_measured : (d : Reach) (n : ℕ) (pairs : List PairInReach) (lengths : List Float) (k : ℕ) (apart : Bool) (distances : List ℤ) (v : PairInReach) (near : Bool) →
-    AreMeasured d n pairs lengths k apart distances → AreMeasured d (n + from_bool near) (set pairs n v) lengths k apart distances
-counted_measured d n pairs lengths k apart distances v near are =
-    let other : (l : ℕ) (p : PairInReach) → l < k → get_or (set pairs n v) l p ≡ get_or pairs l p = λ l p lt. get_or-set_other pairs n l v p (let n≢l : l ≢ n = omega (arith, are.before, lt) in n≢l) in
-    record {
-      before = omega (arith, are.before, counted_least n near);
-      lengths' = λ l p lt. rw (other l p lt) (are.lengths' l p lt);
-      taken = λ l p lt. rw (other l p lt) (are.taken l p lt);
-      apart' = λ is l p lt. rw (other l p lt) (are.apart' is l p lt);
-    }
+-- lanes without a pair
+pub none_held : (d : Reach) (n : ℕ) (pairs : List PairInReach) (x y z squares : List Float) → AreHeld d n pairs x y z squares → AreHeld d 0 pairs x y z squares
+none_held d n pairs x y z squares are = record {
+  held = record {
+    lanes = are.held.lanes;
+    few = omega arith;
+    near = λ k p lt. absurd (omega (arith, lt));
+  };
+  floats = record {
+    near = λ l p lt. absurd (omega (arith, lt));
+    x_lanes = are.floats.x_lanes;
+    y_lanes = are.floats.y_lanes;
+    z_lanes = are.floats.z_lanes;
+    square_lanes = are.floats.square_lanes;
+  };
+}
+
+-- no pair of a batch is measured
+pub none_measured : (d : Reach) (n : ℕ) (pairs : List PairInReach) (lengths : List Float) (apart : Bool) (distances : List ℤ) → AreMeasured d n pairs lengths 0 apart distances
+none_measured d n pairs lengths apart distances = record {
+  before = omega arith;
+  lengths' = λ l p lt. absurd (omega (arith, lt));
+  taken = λ l p lt. absurd (omega (arith, lt));
+  apart' = λ is l p lt. absurd (omega (arith, lt));
+}
 
 -- storing a pair's record and counting it if it is within reach adds the found pair of the two atoms
-pub counted_acts : (d : Reach) (b : RingBox) (p q : Place3) (n : ℕ) (pairs : List PairInReach) (k : ℕ) (v : PairInReach) (near : Bool) → IsReach d → ltb (squared v) (limit_of d.frac d.cutoff) ≡ near →
+pub counted_acts : (d : Reach) (b : RingBox) (p q : Place3) (n : ℕ) (pairs : List PairInReach) (v : PairInReach) (near : Bool) → IsReach d → ltb (squared v) (limit_of d.frac d.cutoff) ≡ near →
     v.separation.x ≡ x_separation b p q → v.separation.y ≡ y_separation b p q → v.separation.z ≡ z_separation b p q → n < length pairs →
-    record { reach = d; pairs = map (found_from d) (take (n + from_bool near) (set pairs n v)); measured = k }
-    ≡ with_pair (record { reach = d; pairs = map (found_from d) (take n pairs); measured = k }) (found_pair_of d b v.low v.high p q)
-counted_acts d b p q n pairs k v true is e x y z room =
+    map (found_from d) (take (n + from_bool near) (set pairs n v)) ≡ map (found_from d) (take n pairs) ++ option_to_list (found_pair_of d b v.low v.high p q)
+counted_acts d b p q n pairs v true is e x y z room =
     rw (← acts d b p q (squared v) (length_of (squared v)) v.separation.x v.separation.y v.separation.z (int_max (pos (distance_at d.frac (squared v))) d.core) is x y z refl (ltb-true _ _ e) refl refl, take_more_set pairs n v room, map-append (found_from d) (take n pairs) (v ∷ [])) refl
-counted_acts d b p q n pairs k v false is e x y z room =
+counted_acts d b p q n pairs v false is e x y z room =
     let s : squared v ≡ square_of b p q = rw (x, y, z) refl in
-    rw (← idle d b p q (squared v) is s (ltb-false _ _ e), uncounted n, take-set pairs n v) refl
+    rw (← idle d b p q (squared v) is s (ltb-false _ _ e), uncounted n, take-set pairs n v, append-nil (map (found_from d) (take n pairs))) refl
+
+found_one : (f : AtomPair → Option FoundPair) (p : AtomPair) (o : Option FoundPair) → f p ≡ o → filter_map f (p ∷ []) ≡ option_to_list o
+found_one f p None e = rw e refl
+found_one f p (Some x) e = rw e refl
+
+-- the pairs found among the pairs of a list and one more: the pair at the end if it interacts
+pub found_push : (d : Reach) (b : RingBox) (frame : List Place3) (near : List AtomPair) (p : AtomPair) → found_among d b frame (near ++ p ∷ []) ≡ found_among d b frame near ++ option_to_list (found_at d b frame p)
+found_push d b frame near p =
+    filter_map-append (found_at d b frame) near (p ∷ []) ∙ ap (λ fs. found_among d b frame near ++ fs) (found_one (found_at d b frame) p (found_at d b frame p) refl)
+
+-- two atoms, for an index past the end of a list
+abbrev pub no_pair : AtomPair
+no_pair = record { low = 0; high = 0 }
+
+-- if the counted pairs are the pairs found among the first k of a list, they are so with one more pair of the list
+pub filled_more : (d : Reach) (b : RingBox) (frame : List Place3) (near : List AtomPair) (k n : ℕ) (pairs : List PairInReach) (v : PairInReach) (is_near : Bool) → IsReach d → ltb (squared v) (limit_of d.frac d.cutoff) ≡ is_near
+    → (here : AtomPair) → here ≡ get_or near k no_pair → k < length near → n < length pairs → v.low ≡ here.low → v.high ≡ here.high
+    → v.separation.x ≡ x_separation b (places_of frame here.low) (places_of frame here.high) → v.separation.y ≡ y_separation b (places_of frame here.low) (places_of frame here.high)
+    → v.separation.z ≡ z_separation b (places_of frame here.low) (places_of frame here.high)
+    → map (found_from d) (take n pairs) ≡ found_among d b frame (take k near)
+    → map (found_from d) (take (n + from_bool is_near) (set pairs n v)) ≡ found_among d b frame (take (k + 1) near)
+filled_more d b frame near k n pairs v is_near is e here at lt room low high x y z found =
+    let p = places_of frame here.low in
+    let q = places_of frame here.high in
+    let last : found_pair_of d b v.low v.high p q ≡ found_at d b frame here = rw (low, high) refl in
+    let next : take (k + 1) near ≡ take k near ++ here ∷ [] = rw at (take_more near k no_pair lt) in
+    counted_acts d b p q n pairs v is_near is e x y z room
+    ∙ (ap₂ (λ fs o. fs ++ option_to_list o) found last
+    ∙ (sym (found_push d b frame (take k near) here) ∙ ap (found_among d b frame) (sym next)))
 
 -- ---- distances
 

@@ -1,5 +1,5 @@
 -- Batches of interacting pairs, stored contiguously.
-use Rattle.std.specs.Prelude.{ℕ, ℤ, pos, Bool, ◌≡◌, ◌+◌, ◌≤◌, ◌<◌, ◌^◌, List, ◌∷◌, ◌++◌, [], length, take, slice_get, slice_index_or, neg_ℤ, unsigned_abs, Option, Some, None, option_map, IsTrue}
+use Rattle.std.specs.Prelude.{ℕ, ℤ, pos, Bool, ◌≡◌, ◌+◌, ◌≤◌, ◌<◌, ◌^◌, List, length, take, slice_get, slice_index_or, neg_ℤ, unsigned_abs, Option, Some, option_map, filter_map, IsTrue}
 use Rattle.std.specs.Float.Ieee.{Float}
 use Rattle.std.specs.List.{All}
 use Rattle.float_filters.specs.Floors.{lane}
@@ -9,11 +9,13 @@ use Rattle.ring_box.specs.FloatReaches.{taken_at}
 use Rattle.ring_box.specs.FloatSeparations.{squares_of}
 use Rattle.ring_box.specs.Forces.{line_force_of}
 use Rattle.ring_box.specs.PairForces.{force_in}
+use Rattle.ring_box.specs.Places.{places_of}
 use Rattle.ring_box.specs.declared.boxes.RingBox.{RingBox}
 use Rattle.ring_box.specs.declared.found_pairs.FoundPair.{FoundPair}
 use Rattle.ring_box.specs.declared.found_pairs.PairInReach.{PairInReach}
 use Rattle.float_filters.specs.declared.force_lanes.FourForces.{FourForces}
 use Rattle.ring_box.specs.declared.pair_forces.PairForces.{PairForces}
+use Rattle.ring_box.specs.declared.pairs.AtomPair.{AtomPair}
 use Rattle.ring_box.specs.declared.vectors.Place3.{Place3}
 use Rattle.ring_box.specs.declared.vectors.Vector.{Vector}
 
@@ -21,16 +23,19 @@ use Rattle.ring_box.specs.declared.vectors.Vector.{Vector}
 abbrev pub found_pair_of : Reach → RingBox → ℕ → ℕ → Place3 → Place3 → Option FoundPair
 found_pair_of d b low high p q = option_map (λ (a : ActingPair). record { low = low; high = high; acting = a }) (acting_of d b p q)
 
+-- a pair of atoms of a frame and its geometry; none if they don't interact
+abbrev pub found_at : Reach → RingBox → List Place3 → AtomPair → Option FoundPair
+found_at d b frame p = found_pair_of d b p.low p.high (places_of frame p.low) (places_of frame p.high)
+
+-- the interacting pairs of a list of pairs of atoms of a frame, in order
+abbrev pub found_among : Reach → RingBox → List Place3 → List AtomPair → List FoundPair
+found_among d b frame near = filter_map (found_at d b frame) near
+
 -- interacting pairs at this reach, in the order in which they were appended; the first `measured` of them are measured
 pub record FoundPairs : Type 0 where
   pub reach : Reach
   pub pairs : List FoundPair
   pub measured : ℕ
-
--- the batch with one more pair at the end, if there is one
-abbrev pub with_pair : FoundPairs → Option FoundPair → FoundPairs
-with_pair found None = found
-with_pair found (Some f) = record { reach = found.reach; pairs = found.pairs ++ f ∷ []; measured = found.measured }
 
 -- ---- forces
 

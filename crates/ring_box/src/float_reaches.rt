@@ -33,8 +33,8 @@ impl Reach {
     /// Whether a separation's square is below the limit, in exact arithmetic.
     #[cold]
     #[inline(never)]
-    fn is_in_reach(&self, separation: Separation) -> bool
-        ensures { result ≡ nat_lt (squares_of separation.x separation.y separation.z) (limit_of self.now.frac self.now.cutoff) }
+    fn is_in_reach(&self, separation: &Separation) -> bool
+        ensures { result ≡ nat_lt (squares_of separation.now.x separation.now.y separation.now.z) (limit_of self.now.frac self.now.cutoff) }
     {
         separation.square() < self.limit()
     }
@@ -42,10 +42,10 @@ impl Reach {
     /// Whether a separation's square is below the limit; the float `square` is near it. Exact arithmetic decides only
     /// next to the limit.
     #[inline(always)]
-    pub(crate) fn reaches(&self, near: FloatReach, square: f64, separation: Separation) -> bool
+    pub(crate) fn reaches(&self, near: FloatReach, square: f64, separation: &Separation) -> bool
         requires reach { IsNearReach self.now near }
-        requires square { IsNear 5 square (squares_of separation.x separation.y separation.z) 1 }
-        ensures { result ≡ nat_lt (squares_of separation.x separation.y separation.z) (limit_of self.now.frac self.now.cutoff) }
+        requires square { IsNear 5 square (squares_of separation.now.x separation.now.y separation.now.z) 1 }
+        ensures { result ≡ nat_lt (squares_of separation.now.x separation.now.y separation.now.z) (limit_of self.now.frac self.now.cutoff) }
     {
         let verdict = near.limit.compare(square);
         if verdict.sure {

@@ -10,6 +10,7 @@ use crate::float_reaches::FloatReach;
 use crate::float_rows::{four_raw, put_four};
 use crate::lines::length_near;
 use crate::pair_forces::PairForces;
+use crate::pairs::AtomPair;
 use crate::reaches::Reach;
 use crate::separations::{FloatSeparation, Separation};
 use crate::vectors::{Place3, Vector};
@@ -163,8 +164,8 @@ impl PairInReach {
 
 // ---- found pairs
 
-/// A batch of at most 128 interacting pairs. Each stage runs for the whole batch: `put` collects pairs, `measure` finds
-/// their distances, and once the derivatives are known, `forces` finds the forces.
+/// A batch of at most 128 interacting pairs. Each stage runs for the whole batch: `fill` collects pairs, `measure`
+/// finds their distances, and once the derivatives are known, `forces` finds the forces.
 ///
 /// Floating-point arithmetic decides each stage's result if its rounding errors can't change the result; otherwise
 /// exact integer arithmetic does.
@@ -199,9 +200,9 @@ impl Model for FoundPairs {
 }
 
 impl FoundPairs {
-    ghost use Rattle.std.specs.Prelude.{[], map, IfSome};
+    ghost use Rattle.std.specs.Prelude.{[], All, map, take, IfSome};
     ghost use Rattle.ring_box.specs.FloatReaches.{IsReachSlack};
-    ghost use Rattle.ring_box.specs.FoundPairs.{AreForcesOf, AreFourForces, AreFourPut, AreSlopesSmall, found_pair_of, with_pair};
+    ghost use Rattle.ring_box.specs.FoundPairs.{AreForcesOf, AreFourForces, AreFourPut, AreSlopesSmall, found_among};
 
     /// An empty batch, with a reach that `clear` replaces.
     pub fn new() -> FoundPairs
@@ -248,24 +249,49 @@ impl FoundPairs {
         self.measured = 0;
     }
 
-    /// Appends the pair of two atoms at `p` and `q` with these indices, if it interacts. The pair is always written and
-    /// only counted if it interacts, so that there is no branch to mispredict. The caller ensures that the batch has
-    /// fewer than 128 pairs.
-    #[inline(always)]
-    pub fn put(&mut self, ring: &RingBox, low: u32, high: u32, p: Place3, q: Place3)
-        requires { length self.old.pairs < 128 }
-        ensures { self.new ≡ with_pair self.old (found_pair_of self.old.reach ring.now low high p q) }
+    /// Replaces the pairs of the batch by the first interacting pairs of a list of pairs of atoms of a frame: those of
+    /// the whole list, or 128. Returns the number of pairs tried. Each pair is written, and only counted if it
+    /// interacts, so that there is no branch to mispredict.
+    pub fn fill(&mut self, ring: &RingBox, frame: &[Place3], near: &[AtomPair]) -> usize
+        requires inside { All (λ p. (p.low < length frame.now) × (p.high < length frame.now)) near.now }
+        ensures tried { result ≤ length near.now }
+        ensures found { let found = found_among self.old.reach ring.now frame.now (take result near.now)
+            in self.new ≡ record { reach = self.old.reach; pairs = found; measured = 0 } }
+        ensures full { result < length near.now → length self.new.pairs ≡ 128 }
+        ensures few { length self.new.pairs ≤ 128 }
     {
-        let l = self.count;
-        let pair = ring.numbered(low, high, p, q);
-        let near = ring.float_separation(p, q);
-        let square = near.square();
-        self.pairs[l] = pair;
-        self.x[l] = near.x;
-        self.y[l] = near.y;
-        self.z[l] = near.z;
-        self.squares[l] = square;
-        self.count = l + usize::from(self.reach.reaches(self.near, square, pair.separation));
+        let ring = *ring;
+        let reach = self.reach;
+        let float_reach = self.near;
+        self.measured = 0;
+        let FoundPairs {
+            pairs,
+            x,
+            y,
+            z,
+            squares,
+            count,
+            ..
+        } = self;
+        let mut l = 0;
+        let mut k = 0;
+        while k < near.len() && l < 128 {
+            let AtomPair { low, high } = near[k];
+            let p = frame[low as usize];
+            let q = frame[high as usize];
+            let pair = ring.numbered(low, high, p, q);
+            let floats = ring.float_separation(p, q);
+            let square = floats.square();
+            pairs[l] = pair;
+            x[l] = floats.x;
+            y[l] = floats.y;
+            z[l] = floats.z;
+            squares[l] = square;
+            l += usize::from(reach.reaches(float_reach, square, &pairs[l].separation));
+            k += 1;
+        }
+        *count = l;
+        k
     }
 
     /// Computes the distance at which the force of each pair is evaluated.
@@ -284,7 +310,8 @@ impl FoundPairs {
     #[inline(always)]
     pub fn atoms(&self, l: usize) -> (u32, u32)
         requires { l < length self.now.pairs }
-        ensures { slice_get (map (λ f. (f.low, f.high)) self.now.pairs) l ≡ Some result }
+        ensures value { slice_get (map (λ f. (f.low, f.high)) self.now.pairs) l ≡ Some result }
+        ensures lane { l < 128 }
     {
         let FoundPairs { pairs, .. } = self;
         let pair = pairs[l];

@@ -1,5 +1,5 @@
 -- The first elements of a list, and the next.
-use Rattle.std.proofs.Common.{◌≡◌, ℕ, zero, suc, ◌+◌, List, [], ◌∷◌, ◌++◌, take, drop, Option, Some, slice_get, ap, sym, ◌∙◌, append-nil, append_assoc, drop-cons, take-append-drop}
+use Rattle.std.proofs.Common.{◌≡◌, ℕ, suc, ◌+◌, List, [], ◌∷◌, ◌++◌, take, drop, Option, Some, slice_get, ap, sym, ◌∙◌, append-nil, append_assoc, drop-cons, take-append-drop}
 use Rattle.std.proofs.lemmas.Grind.{flat_map-append}
 use Rattle.std.proofs.lemmas.Option.{get_or_from_slice_get, slice_get_within}
 use Rattle.rounds.specs.Tiles.{acting, additions_of, additions_of_all, tile_of, AreNextActing}

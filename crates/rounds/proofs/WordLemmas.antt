@@ -1,5 +1,5 @@
 -- Sums kept as signed numbers.
-use Rattle.std.proofs.Common.{◌*◌, ◌≡◌, ℕ, zero, suc, ◌+◌, ◌%◌, ◌^◌, ◌<◌, ◌≢◌, List, [], ◌∷◌, ◌++◌, length, get_or, set, replicate, slice_index, ℤ, pos, refl, sym, ap, subst, ◌∙◌, ⊎_elim, append_assoc, Option, arith, length-append, length-set, flat_map}
+use Rattle.std.proofs.Common.{◌*◌, ◌≡◌, ℕ, zero, suc, ◌+◌, ◌%◌, ◌^◌, ◌<◌, ◌≢◌, List, [], ◌∷◌, ◌++◌, length, get_or, set, replicate, slice_index, ℤ, pos, refl, sym, ap, subst, ◌∙◌, ⊎_elim, append-nil, append_assoc, Option, arith, length-append, length-set, flat_map}
 use Rattle.std.specs.Int.{w64, cast_signed, cast_unsigned}
 use Rattle.std.proofs.lemmas.Int.{of_z-to_z}
 use Rattle.std.proofs.lemmas.Nat.{mod_below}
@@ -86,6 +86,10 @@ module _ (sums : List ℤ) (entry amount bits : ℕ) (result : ℤ) (bits_is : b
   -- Storing the sum of one addition adds this addition to the sums (`GoesOn`).
   pub goes_on_one : entry < length sums → GoesOn sums ((entry, amount) ∷ []) (set sums entry Stored)
   goes_on_one lt = (length-set sums entry Stored, λ done are. sums_added done (length sums) are lt)
+
+-- Making no additions leaves the sums.
+pub goes_on_none : (sums : List ℤ) → GoesOn sums [] sums
+goes_on_none sums = (refl, λ done are. subst (λ xs. AreSums xs (length sums) sums) (sym (append-nil done)) are)
 
 -- If adding xs and then ys leads from some sums to others, so does adding xs ++ ys.
 pub goes_on_more : (before now after : List ℤ) (xs ys zs : List Addition) → GoesOn before xs now → GoesOn now ys after → zs ≡ xs ++ ys → GoesOn before zs after

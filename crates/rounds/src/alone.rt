@@ -1,6 +1,6 @@
 //! The sums on one thread: no table, no tickets and no atomic additions.
-ghost use Rattle.std.specs.Prelude.{◌*◌, ◌/◌, [], length, Some, IfOk, All};
-ghost use Rattle.rounds.specs.Tiles.{additions_of, additions_of_all, IsPairOf};
+ghost use Rattle.std.specs.Prelude.{◌*◌, ◌/◌, [], length, Some, IfOk};
+ghost use Rattle.rounds.specs.Tiles.{additions_of, IsPairOf};
 ghost use Rattle.rounds.specs.Totals.{AreSums, GoesOn};
 
 use crate::faults::Memory;
@@ -9,6 +9,7 @@ use crate::work::PairAdd;
 use std::alloc::Allocator;
 
 // Adds the six components of a pair's forces to the sums.
+#[inline(always)]
 fn add_pair(sums: &mut [i64], add: &PairAdd)
     requires { IsPairOf (length sums.old / 3) add.now }
     ensures { GoesOn sums.old (additions_of (Some add.now)) sums.new }
@@ -17,16 +18,6 @@ fn add_pair(sums: &mut [i64], add: &PairAdd)
         let (entry, amount) = add.addition(part);
         let sum = sums[entry].cast_unsigned().wrapping_add(amount);
         sums[entry] = sum.cast_signed();
-    }
-}
-
-// Adds the forces of pairs, one after the other.
-fn add_pairs(sums: &mut [i64], adds: &[PairAdd])
-    requires { All (IsPairOf (length sums.old / 3)) adds.now }
-    ensures { GoesOn sums.old (additions_of_all adds.now) sums.new }
-{
-    for k in 0..adds.len() {
-        add_pair(sums, &adds[k]);
     }
 }
 
@@ -39,12 +30,12 @@ impl<A: Allocator + Copy> Forces<A> {
         Ok(Forces { sums })
     }
 
-    /// Adds the forces of pairs, one after the other, on the caller's thread only.
+    /// Adds the force of a pair, on the caller's thread only.
     #[inline(always)]
-    pub fn add_all(&mut self, adds: &[PairAdd])
-        requires { All (IsPairOf (length self.old / 3)) adds.now }
-        ensures { GoesOn self.old (additions_of_all adds.now) self.new }
+    pub fn add(&mut self, add: &PairAdd)
+        requires { IsPairOf (length self.old / 3) add.now }
+        ensures { GoesOn self.old (additions_of (Some add.now)) self.new }
     {
-        add_pairs(self.sums.as_mut_slice(), adds);
+        add_pair(self.sums.as_mut_slice(), add);
     }
 }

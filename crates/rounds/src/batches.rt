@@ -1,8 +1,9 @@
-//! The forces of a batch of pairs.
+//! The forces of a batch of pairs, as scratch memory of work that computes them one by one.
 
-ghost use Rattle.std.specs.Prelude.{◌≡◌, ◌+◌, ◌<◌, ◌≤◌, ◌==◌, [], ◌∷◌, ◌++◌, length};
+ghost use Rattle.std.specs.Prelude.{◌≡◌, ◌+◌, ◌<◌, ◌≤◌, ◌==◌, [], ◌∷◌, ◌++◌, length, All};
+ghost use Rattle.rounds.specs.Tiles.{pairs_at, AreNextActing, IsPairOf};
 
-use crate::work::PairAdd;
+use crate::work::{PairAdd, Work};
 use std::marker::Model;
 
 /// At most 128 forces, in order. Contracts see the list of them. Unlike the kit's `ArrayVec`, `clear` writes no zeros.
@@ -75,4 +76,28 @@ impl PairAdds {
     {
         &self.adds[..self.count]
     }
+}
+
+/// Replaces `adds` by the forces of the next interacting pairs of a tile from the pair `k` on, in order, at most 128.
+/// Returns the number of the pair with which the next call continues. `RowWork::next_adds` is a call of this function
+/// for work that computes each force separately. The caller ensures that there is such a tile, and that it has more
+/// than `k` pairs.
+pub fn next_from_pairs<W: Work>(work: &W, tile: u64, k: u64, adds: &mut PairAdds) -> u64
+    requires tile { tile < length (W.plan work.now) }
+    requires start { k < length (pairs_at (W.plan work.now) tile) }
+    ensures next { AreNextActing (pairs_at (W.plan work.now) tile) k adds.new.items result }
+    ensures atoms { All (IsPairOf (W.atoms work.now)) adds.new.items }
+{
+    adds.clear();
+    let pairs = work.pairs(tile);
+    for number in k..pairs {
+        if adds.is_full() {
+            return number;
+        }
+        match work.pair(tile, number) {
+            Some(add) => adds.push(add),
+            None => {}
+        }
+    }
+    pairs
 }

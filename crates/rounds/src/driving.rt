@@ -1,14 +1,12 @@
 //! One worker, from its first ticket to the one that stops it.
 //!
-//! A worker adds forces in batches of at most 128 interacting pairs (`RowWork::next_adds`), so that the forces of a
-//! batch can be computed together. The batch is made once per worker: making one writes its four kilobytes of zeros,
-//! which would be most of the cost of an empty tile. To clear it writes only the count of its forces.
+//! A worker adds forces in batches of interacting pairs (`RowWork::next_adds`), so that the forces of a batch can be
+//! computed together. The worker adds the forces from the scratch memory in which they were computed.
 ghost use Rattle.std.specs.Prelude.{◌≡◌, ◌<◌, ◌≤◌, length};
 ghost use Rattle.rounds.specs.Tiles.{tiles_of, tile_of, pairs_at};
 ghost use Rattle.rounds.specs.Workers.{HasDrawn, HasStopped, fresh, added};
 ghost use Rattle.rounds.specs.Rule.{alone, first_of, IsFor};
 
-use crate::batches::PairAdds;
 use crate::rule::{PoolSeat, PoolTable};
 use crate::steps::{claim, deposit_pairs};
 use crate::work::RowWork;
@@ -20,12 +18,11 @@ pub trait Gate {
     fn before_tile(&self, worker: u32, tile: u64);
 }
 
-// Makes all additions of the tile that was drawn. `adds` is work space.
+// Makes all additions of the tile that was drawn.
 fn deposit_tile<S, W: RowWork<S>>(
     table: &PoolTable<W>,
     seat: &mut PoolSeat,
     scratch: &mut S,
-    adds: &mut PairAdds,
     work: &W,
     tile: u64,
 )
@@ -42,8 +39,8 @@ fn deposit_tile<S, W: RowWork<S>>(
     let pairs = work.pairs(tile);
     let mut k = 0;
     while k < pairs {
-        k = work.next_adds(scratch, tile, k, adds);
-        deposit_pairs(table, seat, adds.as_slice());
+        k = work.next_adds(scratch, tile, k);
+        deposit_pairs(table, seat, work, scratch);
     }
 }
 
@@ -70,12 +67,11 @@ pub fn drive<S, W: RowWork<S>, G: Gate>(
     ensures number { (first_of result.me.0).number ≡ worker }
     ensures stopped { HasStopped (tiles_of (W.plan work.now)) (first_of result.me.0) }
 {
-    let mut adds = PairAdds::new();
     let tiles = work.tiles();
     let mut tile = claim(table, &mut seat);
     while tile < tiles {
         gate.before_tile(worker, tile);
-        deposit_tile(table, &mut seat, scratch, &mut adds, work, tile);
+        deposit_tile(table, &mut seat, scratch, work, tile);
         tile = claim(table, &mut seat);
     }
     seat

@@ -19,7 +19,7 @@ mod steps;
 mod sums;
 mod work;
 
-pub use batches::PairAdds;
+pub use batches::{PairAdds, next_from_pairs};
 pub use driving::{Gate, drive};
 pub use events::{Event, Outcome};
 pub use faults::{Memory, RoundFault};

@@ -5,7 +5,7 @@ ghost use Rattle.rounds.specs.Workers.{Each, IsReady, HasPending, drew, added};
 ghost use Rattle.rounds.specs.Rule.{alone, first_of, IsSized};
 
 use crate::rule::{Claim, Deposit, PoolSeat, PoolTable};
-use crate::work::{PairAdd, Work};
+use crate::work::{PairAdd, RowWork, Work};
 
 // Draws a ticket: adds 1 to word 0 and returns its old value.
 pub(crate) fn claim<W: Work>(table: &PoolTable<W>, seat: &mut PoolSeat) -> u64
@@ -54,19 +54,24 @@ pub(crate) fn deposit_pair<W: Work>(table: &PoolTable<W>, seat: &mut PoolSeat, a
     }
 }
 
-// Makes the additions of interacting pairs, one after the other.
-pub(crate) fn deposit_pairs<W: Work>(table: &PoolTable<W>, seat: &mut PoolSeat, adds: &[PairAdd])
+// Makes the additions of the forces that the scratch holds, one after the other.
+pub(crate) fn deposit_pairs<S, W: RowWork<S>>(
+    table: &PoolTable<W>,
+    seat: &mut PoolSeat,
+    work: &W,
+    scratch: &S,
+)
     requires table { seat.old.table_id ≡ table.now.table_id }
     requires sized { IsSized table.now.table_id table.now.key.atoms table.now.key.workers
         (length (W.plan table.now.key.work.value)) }
-    requires atoms { All (IsPairOf table.now.key.atoms) adds.now }
+    requires atoms { All (IsPairOf table.now.key.atoms) (W.held scratch.now) }
     requires alone { seat.old.me ≡ alone (first_of seat.old.me.0) }
     requires next { (rest : List Addition) × HasPending (tiles_of (W.plan table.now.key.work.value))
-        (first_of seat.old.me.0) (additions_of_all adds.now ++ rest) }
+        (first_of seat.old.me.0) (additions_of_all (W.held scratch.now) ++ rest) }
     ensures table { seat.new.table_id ≡ seat.old.table_id }
-    ensures added { seat.new.me ≡ alone (added (first_of seat.old.me.0) (additions_of_all adds.now)) }
+    ensures added { seat.new.me ≡ alone (added (first_of seat.old.me.0) (additions_of_all (W.held scratch.now))) }
 {
-    for k in 0..adds.len() {
-        deposit_pair(table, seat, &adds[k]);
+    for k in 0..work.count(scratch) {
+        deposit_pair(table, seat, &work.add_at(scratch, k));
     }
 }

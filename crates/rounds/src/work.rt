@@ -4,8 +4,6 @@ ghost use Rattle.std.specs.Prelude.{◌≡◌, ◌+◌, ◌<◌, ◌≤◌, ℕ,
 ghost use Rattle.rounds.specs.declared.work.PairAdd.{PairAdd};
 ghost use Rattle.rounds.specs.Tiles.{additions_of, along, against, pairs_at, AreNextActing, IsPairOf};
 
-use crate::batches::PairAdds;
-
 /// The force of an interacting pair, as it is added: the force itself to the atom `low`, its negative to the atom
 /// `high`.
 #[derive(Clone, Copy, PartialEq, Eq, Default, Debug)]
@@ -84,32 +82,30 @@ pub trait Work {
 }
 
 /// Work that returns the forces of its pairs in batches. The caller lends one `S` per worker as scratch memory, which
-/// outlives a step and changes no result.
+/// holds the forces of the last batch, outlives a step and changes no result.
 ///
 /// `S` is a parameter of the trait and no associated type, since a closure that holds a value of such a type can't be
 /// handed to a thread. `next_adds` isn't a call of `Work`, since the state machine of a round doesn't need it.
 pub trait RowWork<S>: Work {
-    /// Replaces `adds` by the forces of the next interacting pairs from the pair `k` on, in order, at most 128. Returns
-    /// the number of the pair with which the next call continues. This default calls `pair` for each pair; work that
-    /// computes the forces of many pairs together has its own body. The caller ensures that there is such a tile, and
-    /// that it has more than `k` pairs.
-    fn next_adds(&self, _scratch: &mut S, tile: u64, k: u64, adds: &mut PairAdds) -> u64
+    /// The forces that a scratch holds, in order.
+    ghost held: { S → List PairAdd };
+
+    /// Replaces the forces that the scratch holds by the forces of the next interacting pairs from the pair `k` on, in
+    /// order. Returns the number of the pair with which the next call continues. The caller ensures that there is such
+    /// a tile, and that it has more than `k` pairs.
+    fn next_adds(&self, scratch: &mut S, tile: u64, k: u64) -> u64
         requires tile { tile < length (Self.plan self.now) }
         requires start { k < length (pairs_at (Self.plan self.now) tile) }
-        ensures next { AreNextActing (pairs_at (Self.plan self.now) tile) k adds.new.items result }
-        ensures atoms { All (IsPairOf (Self.atoms self.now)) adds.new.items }
-    {
-        adds.clear();
-        let pairs = self.pairs(tile);
-        for number in k..pairs {
-            if adds.is_full() {
-                return number;
-            }
-            match self.pair(tile, number) {
-                Some(add) => adds.push(add),
-                None => {}
-            }
-        }
-        pairs
-    }
+        ensures next { AreNextActing (pairs_at (Self.plan self.now) tile) k (held scratch.new) result }
+        ensures atoms { All (IsPairOf (Self.atoms self.now)) (held scratch.new) };
+
+    /// The number of forces that the scratch holds.
+    fn count(&self, scratch: &S) -> usize
+        ensures { result ≡ length (held scratch.now) };
+
+    /// The force with this index among the forces that the scratch holds. The caller ensures that there is such a
+    /// force.
+    fn add_at(&self, scratch: &S, l: usize) -> PairAdd
+        requires { l < length (held scratch.now) }
+        ensures { slice_get (held scratch.now) l ≡ Some result };
 }

@@ -1,6 +1,6 @@
 use Rattle.std.proofs.Common.{◌≡◌, ℕ, ◌++◌, [], length, map, get_or, take, ap, sym, ◌∙◌, arith, append-nil}
 use Rattle.std.proofs.lemmas.List.{length-map, length-take-le}
-use Rattle.cell_tiles.specs.declared.pairs.AtomPair.{AtomPair}
+use Rattle.ring_box.specs.declared.pairs.AtomPair.{AtomPair}
 use Rattle.cell_tiles.specs.Near.{lanes_of}
 use Rattle.cell_tiles.specs.Tiles.{pair_of}
 use Rattle.cell_tiles.proofs.LaneLemmas.{length_lanes, no_lanes}

@@ -1,5 +1,5 @@
 use Rattle.std.proofs.Common.{arith, ◌∙◌, length-set}
-use Rattle.cell_tiles.specs.declared.pairs.AtomPair.{AtomPair}
+use Rattle.ring_box.specs.declared.pairs.AtomPair.{AtomPair}
 use Rattle.cell_tiles.proofs.MarkLemmas.{named_next}
 use Rattle.cell_tiles.proofs.lists.PairList.resolve.Goals as goal
 

@@ -1,6 +1,6 @@
 use Rattle.std.proofs.Common.{◌≡◌, length, map, take}
 use Rattle.cell_tiles.specs.Near.{named}
-use Rattle.cell_tiles.specs.declared.pairs.AtomPair.{AtomPair}
+use Rattle.ring_box.specs.declared.pairs.AtomPair.{AtomPair}
 use Rattle.cell_tiles.proofs.lists.PairList.resolve.Given as goal
 
 abbrev pub invariant-loop-e : goal.invariant-loop-e

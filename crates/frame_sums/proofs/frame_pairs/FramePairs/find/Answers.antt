@@ -2,7 +2,7 @@ use Rattle.std.proofs.Common.{◌≡◌, ◌+◌, ◌<◌, ◌≤◌, ℕ, List,
 use Rattle.std.proofs.lemmas.List.{length-drop, length-map}
 use Rattle.std.proofs.lemmas.List.Elements.{All-drop}
 use Rattle.cell_tiles.specs.Near.{IsPairOf}
-use Rattle.cell_tiles.specs.declared.pairs.AtomPair.{AtomPair}
+use Rattle.ring_box.specs.declared.pairs.AtomPair.{AtomPair}
 use Rattle.pair_lists.specs.PairLists.{list_at, lists_of}
 use Rattle.rounds.specs.Tiles.{AreNextActing}
 use Rattle.frame_sums.proofs.RowLaws.{all_tried, near_found, next_add, part_found}

@@ -7,16 +7,16 @@ use Rattle.frame_sums.specs.Rows.{query_of}
 use Rattle.frame_sums.proofs.safe_systems.SafeSystem.query_all.Goals as goal
 
 pub query-requires-clause-ordered : goal.query-requires-clause-ordered
-query-requires-clause-ordered g c = (found_here c.args.self.now.system _ c.args.found.now.pairs c.loop-l.l c.atoms-low.result c.distance.result c.requires.found c.atoms-low.ensures c.distance.ensures).1
+query-requires-clause-ordered g c = (found_here c.args.self.now.system _ c.args.found.now.pairs c.loop-l.l c.atoms-low.result c.distance.result c.requires.found c.atoms-low.ensures.value c.distance.ensures).1
 
 pub query-requires-clause-inside : goal.query-requires-clause-inside
-query-requires-clause-inside g c = (found_here c.args.self.now.system _ c.args.found.now.pairs c.loop-l.l c.atoms-low.result c.distance.result c.requires.found c.atoms-low.ensures c.distance.ensures).2
+query-requires-clause-inside g c = (found_here c.args.self.now.system _ c.args.found.now.pairs c.loop-l.l c.atoms-low.result c.distance.result c.requires.found c.atoms-low.ensures.value c.distance.ensures).2
 
 pub query-requires-clause-core : goal.query-requires-clause-core
-query-requires-clause-core g c = (found_here c.args.self.now.system _ c.args.found.now.pairs c.loop-l.l c.atoms-low.result c.distance.result c.requires.found c.atoms-low.ensures c.distance.ensures).3
+query-requires-clause-core g c = (found_here c.args.self.now.system _ c.args.found.now.pairs c.loop-l.l c.atoms-low.result c.distance.result c.requires.found c.atoms-low.ensures.value c.distance.ensures).3
 
 pub query-requires-clause-cutoff : goal.query-requires-clause-cutoff
-query-requires-clause-cutoff g c = (found_here c.args.self.now.system _ c.args.found.now.pairs c.loop-l.l c.atoms-low.result c.distance.result c.requires.found c.atoms-low.ensures c.distance.ensures).4
+query-requires-clause-cutoff g c = (found_here c.args.self.now.system _ c.args.found.now.pairs c.loop-l.l c.atoms-low.result c.distance.result c.requires.found c.atoms-low.ensures.value c.distance.ensures).4
 
 pub loop-l-preserved : goal.loop-l-preserved
 loop-l-preserved g c =
@@ -28,8 +28,8 @@ loop-l-preserved g c =
     let kept = c.loop-l.invariant in
     let room : l < length queries = omega (arith, c.told-queries, c.len-l-end.ensures.few, c.loop-l-test.true) in
     let pushed : take (l + 1) (set queries l query) ≡ take l queries ++ query ∷ [] = take_more_set queries l query room in
-    let here = found_here s _ found l c.atoms-low.result c.distance.result c.requires.found c.atoms-low.ensures c.distance.ensures in
-    let asked : query ≡ query_of s here.0 = c.query.ensures.value ∙ asked_by s found l here.0 c.atoms-low.result c.distance.result here.5 c.atoms-low.ensures c.distance.ensures in
+    let here = found_here s _ found l c.atoms-low.result c.distance.result c.requires.found c.atoms-low.ensures.value c.distance.ensures in
+    let asked : query ≡ query_of s here.0 = c.query.ensures.value ∙ asked_by s found l here.0 c.atoms-low.result c.distance.result here.5 c.atoms-low.ensures.value c.distance.ensures in
     record {
       value = rw (pushed, mapped_next (query_of s) found l here.0 here.5, kept.value, asked) refl;
       served = rw pushed (All-push (IsServed s.kernel.verified) (take l queries) query kept.served c.query.ensures.served);

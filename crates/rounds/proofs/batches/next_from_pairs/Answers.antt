@@ -2,12 +2,12 @@ use Rattle.std.proofs.Common.{◌≡◌, ◌++◌, ◌∷◌, [], length, Some, 
 use Rattle.std.proofs.lemmas.List.Elements.{All-push}
 use Rattle.rounds.specs.Tiles.{pairs_at, IsPairOf}
 use Rattle.rounds.proofs.ActingLemmas.{acts_on}
-use Rattle.rounds.proofs.work.RowWork.next_adds.Goals as goal
-use Rattle.rounds.proofs.work.RowWork.next_adds.Goals.{in-Some, in-None}
+use Rattle.rounds.proofs.batches.next_from_pairs.Goals as goal
+use Rattle.rounds.proofs.batches.next_from_pairs.Goals.{in-Some, in-None}
 
 pub loop-number-preserved : goal.loop-number-preserved
 loop-number-preserved g c =
-    let pairs = pairs_at (g.Self.Work.plan c.args.self.now) c.args.tile in
+    let pairs = pairs_at (g.W.Work.plan c.args.work.now) c.args.tile in
     let inv = c.loop-number.invariant in
     let found = c.loop-number.adds.items in
     elim c.match-pair.branch [
@@ -16,7 +16,7 @@ loop-number-preserved g c =
           let here = c.pair.ensures.planned ∙ ap Some w.in-Some.is in (
             omega (arith, inv.0, w.push.ensures.len, ap (λ xs. length xs.items) w.adds-is),
             acts_on pairs c.args.k c.loop-number.number found c.match-pair.adds.items (Some w.in-Some.add) inv.1 here next,
-            subst (All (IsPairOf (g.Self.Work.atoms c.args.self.now))) (sym next) (All-push (IsPairOf (g.Self.Work.atoms c.args.self.now)) found w.in-Some.add inv.2 w.in-Some.ensures.atoms),
+            subst (All (IsPairOf (g.W.Work.atoms c.args.work.now))) (sym next) (All-push (IsPairOf (g.W.Work.atoms c.args.work.now)) found w.in-Some.add inv.2 w.in-Some.ensures.atoms),
           )
       | in-None w ↦
           let here = c.pair.ensures.planned ∙ ap Some w.in-None.is in
