@@ -3,7 +3,7 @@
 //! An approximation has the range of the values that an operation may compute, and the range of their errors: the computed
 //! value less the exact one. A rule for each operation of energies gives the approximation of its result. The rules are
 //! formulas over integers (`specs/Rules.antt`), which the functions here compute; they are right for all ordered exact
-//! numbers, such as the real numbers.
+//! numbers, such as the rational numbers.
 #![tactic(auto)]
 
 mod approximations;

@@ -103,8 +103,8 @@ V3 Undecided T U LO HI pc PC FAULT
 Status 3.
 
 For atoms of the types T and U, somewhere between the distances LO and HI, the
-instruction PC may meet FAULT. At LO and at HI the code has a value; in between
-there are too many distances to try each of them.
+instruction PC may meet FAULT. At LO and at HI the code has a value; distances
+in between weren't tried, since a slice is halved a limited number of times.
 LO and HI are multiples of 2^-bits nm. All pairs of types before T and U, in the
 job's order, are accepted.
 The code computes the slope, dU/dr, and `pairmd code JOB` prints it. `energy`,

@@ -11,8 +11,9 @@ Status 5.
 The file at PATH can't be read to its end: it doesn't exist, it is a directory,
 or its permissions forbid reading. PATH is printed as it was given, so a path
 with a line feed makes two lines.
-A command reads all its files before it checks any of them. It reads JOB first,
-then GRO, STATE or LISTING: `check --code L JOB` reads JOB before L.
+A command reads its files before it checks any of them, except a stream: with
+`--each` and in `replay` it reads states as it goes on. It reads JOB first, then
+GRO, STATE or LISTING: `check --code L JOB` reads JOB before L.
 
 Example:
     $ pairmd run job later --steps 1
@@ -51,7 +52,8 @@ Status 4.
 
 Memory ran out: an allocation failed.
 `Memory`: before the first step, in `replay`, or in a command without steps.
-`curve` may have printed whole tables.
+`curve` may have printed whole tables; with `--each` and in `replay`, results
+of some states or segments may be printed.
 `Memory` can also replace another error whose line needs memory.
 `Memory after K steps`: after K whole steps, K from 0. `run` and `back` print
 nothing. `trajectory`, `states` and `observe` have printed whole frames, states

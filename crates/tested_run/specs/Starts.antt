@@ -46,7 +46,7 @@ pub record Start : Type 0 where
 abbrev pub start_at : Law → JobValue → StateView → Energy × List ℕ → ℤ → Start
 start_at law j s system counter = record { state = s; dynamics = law j s.sides system.0 system.1; counter = counter }
 
--- The start for a job and a state. The refusals come in this order: energy, types and box, counter.
+-- The start for a job and a state. The refusals come in this order: energy, fraction bits, types and box, counter.
 unfoldable pub start_with : Law → Direction → ℕ → JobValue → StateView → Result Start StartRefusal
 start_with law direction steps j s = do
   system ← or_refused system_refused (system_of j s)

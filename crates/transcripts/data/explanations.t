@@ -7,8 +7,8 @@ An explanation prints the forms of the error, its exit status, its meaning, an e
   Status 3.
   
   For atoms of the types T and U, somewhere between the distances LO and HI, the
-  instruction PC may meet FAULT. At LO and at HI the code has a value; in between
-  there are too many distances to try each of them.
+  instruction PC may meet FAULT. At LO and at HI the code has a value; distances
+  in between weren't tried, since a slice is halved a limited number of times.
   LO and HI are multiples of 2^-bits nm. All pairs of types before T and U, in the
   job's order, are accepted.
   The code computes the slope, dU/dr, and `pairmd code JOB` prints it. `energy`,
@@ -46,7 +46,8 @@ An explanation prints the forms of the error, its exit status, its meaning, an e
   
   Memory ran out: an allocation failed.
   `Memory`: before the first step, in `replay`, or in a command without steps.
-  `curve` may have printed whole tables.
+  `curve` may have printed whole tables; with `--each` and in `replay`, results
+  of some states or segments may be printed.
   `Memory` can also replace another error whose line needs memory.
   `Memory after K steps`: after K whole steps, K from 0. `run` and `back` print
   nothing. `trajectory`, `states` and `observe` have printed whole frames, states
