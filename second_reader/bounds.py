@@ -480,6 +480,13 @@ class Formula:
             return found
         return [lesser(bound, joined_bound([part[quantity] for part in divided])) for quantity, bound in enumerate(found)]
 
+    def change(self, others, z):
+        """The most that this formula changes from a distance to one unit above it, in error units."""
+        [part] = self.approximations([distances(Range(z, z)), *others], 0)
+        if part.slope is None:
+            return None
+        return up_over(FINER * magnitude(part.slope.computed) + magnitude(part.slope.error), self.on.one)
+
 
 def joined_bound(approximations):
     """The bound, if each of these numbers may be computed for each of these exact numbers."""

@@ -17,7 +17,7 @@ from curve import arguments, curve, text_for
 from read import with_deep_stack
 
 EXAMPLES = Path(__file__).resolve().parent.parent / "examples"
-COLUMNS = ((), (), (), ("--energy",), ("--slope",))
+COLUMNS = ((), ("--grid",), ("--grid",), ("--energy",), ("--slope",), ("--slope", "--grid"))
 MOST_SECONDS = 60  # of the program for one job
 
 # ---- random jobs
@@ -119,7 +119,7 @@ def main():
     examples, formulas = Count(), Count()
     for path in sorted(EXAMPLES.glob("*.job")):
         job = path.read_text()
-        examples.take(path.name, printed(program, job, ()), curve(job.encode()))
+        examples.take(path.name, printed(program, job, ("--grid",)), curve(job.encode(), grid=True))
     seed = 0
     while formulas.tables < count:
         draft = Draft(seed)

@@ -311,10 +311,15 @@ def code(job: JobInput, *, energy: bool = False, program: Named = None) -> str:
         return call("code", *paths, *(["--energy"] if energy else []), program=program)
 
 
-def curve(job: JobInput, points: Count = 100, types: tuple[str, str] | None = None, *, program: Named = None) -> list[Curve]:
-    """Returns the potential of each pair of types, or of one pair, with proved bounds on its errors."""
+def curve(
+    job: JobInput, points: Count = 100, types: tuple[str, str] | None = None, *, grid: bool = False, program: Named = None
+) -> list[Curve]:
+    """Returns the potential of each pair of types, or of one pair, with proved bounds on its errors. With `grid` rows have
+    the part of the slope's error that no spelling of the formula avoids.
+    """
     with files(job) as paths:
-        words = ["curve", *paths, *option("points", points), *(["--types", *types] if types else [])]
+        options = [*(["--types", *types] if types else []), *(["--grid"] if grid else [])]
+        words = ["curve", *paths, *option("points", points), *options]
         return list(read_curves(lines_of(call(*words, program=program))))
 
 

@@ -255,7 +255,8 @@ def read_steps(source: Source) -> Iterator[tuple[int, str]]:
 @dataclass(frozen=True)
 class CurveRow:
     """A row of a potential: the distance in nm, energy in kJ/mol and slope dU/dr in kJ/mol/nm as printed, and the
-    bounds on their errors as printed. A bound is None if the program found none, and a column that isn't printed is None.
+    bounds on their errors as printed; with `--grid` also the part of the slope's error that no spelling of the formula
+    avoids. A bound is None if the program found none, and a column that isn't printed is None.
     """
 
     r: Decimal
@@ -263,6 +264,7 @@ class CurveRow:
     energy_error: Decimal | None = None
     slope: Decimal | None = None
     slope_error: Decimal | None = None
+    slope_grid: Decimal | None = None
 
 
 # the fields of CurveRow by the names of the columns
@@ -272,6 +274,7 @@ CURVE_COLUMNS = {
     "energy-error": "energy_error",
     "slope/(kJ/mol/nm)": "slope",
     "slope-error": "slope_error",
+    "slope-grid": "slope_grid",
 }
 
 
@@ -324,6 +327,6 @@ def read_curves(source: Source) -> Iterator[Curve]:
 def curve_row(words: dict[str, str], lines: Lines) -> CurveRow:
     """Returns a row from its words by field. Only a bound may be `-`."""
     numbers = {name: cell(word, lines) for name, word in words.items()}
-    if any(number is None and not name.endswith("_error") for name, number in numbers.items()):
+    if any(number is None and not name.endswith(("_error", "_grid")) for name, number in numbers.items()):
         raise lines.error("expected a number, not `-`")
     return CurveRow(**numbers)

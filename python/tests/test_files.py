@@ -219,6 +219,11 @@ class Tables(unittest.TestCase):
         with self.assertRaises(pairmd.FormatError):
             list(pairmd.read_curves(["# AR KR\n", "# KR AR\n", "0.25 2.5 1.00e-2\n"]))
 
+    def test_curve_with_the_grid(self):
+        text = "# AR KR\n# r/nm slope/(kJ/mol/nm) slope-error slope-grid\n0.25 -9.5 1.00e-2 9.99e-3\n0.5 2.5 3.00e-2 - # large slope-error\n"
+        (curve,) = pairmd.read_curves(text.splitlines(keepends=True))
+        self.assertEqual([row.slope_grid for row in curve.rows], [Decimal("9.99e-3"), None])
+
     def test_curve_of_one_quantity(self):
         text = "# r/nm AR\n# r/nm slope/(kJ/mol/nm) slope-error\n0.200000000000 -9.500000000000 -\n"
         text += "# no slope-error from 0.200000000000\n# greatest slope-error - (1 row without)\n"

@@ -52,16 +52,17 @@ pub record HasNamedTypes (job : List ℕ) (names : Names) : Type 0 where
 
 -- ---- the tables
 
--- the columns: those of the energy with only `--energy`, those of the slope with only `--slope`, otherwise all
-abbrev pub columns_shown : (energy slope : Bool) → CurveColumns
-columns_shown true false = Energy
-columns_shown false true = Slope
-columns_shown _ _ = All
+-- the columns: those of the energy with only `--energy`, those of the slope with only `--slope`, otherwise all; with `--grid`
+-- also the grid's, which isn't a column of the energy
+abbrev pub columns_shown : (energy slope grid : Bool) → CurveColumns
+columns_shown true false grid = Energy
+columns_shown false true grid = Slope grid
+columns_shown _ _ grid = All grid
 
 -- the plan has the number of rows, the columns and the types that the arguments request
 pub record IsPlanOf (j : JobValue) (c : CurveView) (plan : CurvePlan) : Type 0 where
   pub points : plan.points ≡ c.points
-  pub columns : plan.columns ≡ columns_shown c.energy c.slope
+  pub columns : plan.columns ≡ columns_shown c.energy c.slope c.grid
   pub pair : IsPairNamed j c.types plan.pair
 
 -- the statement `Holds` is true of the plan that the arguments request

@@ -115,19 +115,20 @@ fn plan_of<'a, A: Allocator>(
     let pair = pair_of(job, curve.types)?;
     Ok(CurvePlan {
         points: curve.points,
-        columns: columns_of(curve.energy, curve.slope),
+        columns: columns_of(curve.energy, curve.slope, curve.grid),
         pair,
     })
 }
 
-/// The columns of a table: with only one flag, the columns of the energy or of the slope, otherwise all columns.
-fn columns_of(energy: bool, slope: bool) -> CurveColumns
-    ensures { result ≡ columns_shown energy slope }
+/// The columns of a table: with only one of the flags for the energy and for the slope, its columns, otherwise all columns;
+/// and the column of the grid.
+fn columns_of(energy: bool, slope: bool, grid: bool) -> CurveColumns
+    ensures { result ≡ columns_shown energy slope grid }
 {
     match (energy, slope) {
         (true, false) => CurveColumns::Energy,
-        (false, true) => CurveColumns::Slope,
-        _ => CurveColumns::All,
+        (false, true) => CurveColumns::Slope { grid },
+        _ => CurveColumns::All { grid },
     }
 }
 

@@ -5,7 +5,7 @@ use Rattle.clap.specs.Words.{IsAmong, Kinds, Row, Text, fault_of, subcommand_of}
 use Rattle.clap.specs.Kinds.{or_else}
 use Rattle.clap.specs.declared.error.kind.ErrorKind.{ErrorKind}
 use Rattle.clap.specs.declared.error.kind.ErrorKind.TheVariants.{DisplayHelp, DisplayVersion, InvalidValue}
-use Rattle.command_line.specs.CommandLine.{ACode, ACount, ACounter, AFlag, ANumber, APart, AText, AsksForHelp, AsksForVersion, Gives, IsCommand, IsCommandOf, IsExplained, IsGiven, IsMeant, IsMeantBy, IsNamedOf, Kind, Names, Perhaps, Reads, Says, Takes, Usage, ValueOf, both_of, faults_in, pasted, program, followed_by, usage_in, usages}
+use Rattle.command_line.specs.CommandLine.{ACode, ACount, ACounter, AFlag, AFlagUnless, ANumber, APart, AText, AsksForHelp, AsksForVersion, Gives, IsCommand, IsCommandOf, IsExplained, IsGiven, IsMeant, IsMeantBy, IsNamedOf, Kind, Names, Perhaps, Reads, Says, Takes, Usage, ValueOf, both_of, faults_in, pasted, program, followed_by, usage_in, usages}
 use Rattle.command_line.specs.Commands.{CommandView, Explain}
 use Rattle.command_line.proofs.CommandLineLaws.{said_once}
 use Rattle.command_line.proofs.CountLaws.{count_said_once}
@@ -41,6 +41,7 @@ pub says_once : (name : Text) (rows : List Row) (kind : Kind) (a b : ValueOf kin
 says_once name rows AText a b is also = one_text a b (sym also ∙ is)
 says_once name rows Perhaps a b is also = sym also ∙ is
 says_once name rows AFlag a b is also = one_flag name rows a b is also
+says_once name rows (AFlagUnless other) a b is also = one_flag name rows a b is.0 also.0
 says_once name rows (ANumber least most) a b is also = said_once name rows b a also.2 is.2
 says_once name rows (ACount least most) a b is also = count_said_once name rows b a also.2 is.2
 says_once name rows ACounter a b is also = counter_said_once name rows b a also is

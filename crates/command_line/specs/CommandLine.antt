@@ -1,6 +1,6 @@
 -- The command line: which arguments name which command. Arguments follow the rules of utilities (POSIX.1-2017, Utility
 -- Syntax Guidelines), as the toolchain's model of `clap` states them.
-use Rattle.std.specs.Prelude.{◌≡◌, ◌≢◌, ◌≤◌, ◌<◌, ◌==◌, ◌*◌, ◌^◌, ◌⊎◌, ◌++◌, if◌then◌else◌, ℕ, ℤ, pos, negsuc, FitsSigned, Bool, List, [], ◌∷◌, MatchOption, Option, Some, None, Result, IfOk, option_map, true, false, codes, unwrap_or}
+use Rattle.std.specs.Prelude.{◌≡◌, ◌≢◌, ◌≤◌, ◌<◌, ◌==◌, ◌&&◌, ◌*◌, ◌^◌, ◌⊎◌, ◌++◌, if◌then◌else◌, ℕ, ℤ, pos, negsuc, FitsSigned, Bool, List, [], ◌∷◌, MatchOption, Option, Some, None, Result, IfOk, option_map, true, false, codes, unwrap_or}
 use Rattle.std.specs.Str.{bytes_eq}
 use Rattle.std.specs.Int.{w64}
 use Rattle.std.specs.Str.Parse.{IsNumeral, digits_value, signed_digits_value, without_leading_plus, without_leading_sign}
@@ -186,8 +186,8 @@ abbrev pub listing : Shape
 listing = (of_job (codes "code") (flag_rule (codes "energy") ∷ [])).top
 
 abbrev pub curving : Shape
-curving = (of_job (codes "curve") (points_rule ∷ flag_rule (codes "energy") ∷ flag_rule (codes "slope") ∷ types_rule
-    ∷ flag_rule (codes "progress") ∷ [])).top
+curving = (of_job (codes "curve") (points_rule ∷ flag_rule (codes "energy") ∷ flag_rule (codes "slope")
+    ∷ flag_rule (codes "grid") ∷ types_rule ∷ flag_rule (codes "progress") ∷ [])).top
 
 abbrev pub explaining : Shape
 explaining = (taking (new_app (codes "explain")) (values_rule (codes "CODE") ∷ [])).top
@@ -313,13 +313,14 @@ IsGiven flag rows false = first_of flag rows ≢ Some (codes "true")
 abbrev pub values_of : Text → List Row → List Text
 values_of name rows = unwrap_or (all_of name rows) []
 
--- the kinds of arguments by their values: a text; a text that may be missing; a flag; a number in a range; a number of
--- steps in a range; a step counter; a part, and the number of all parts; two names, if they are given; the code of an
--- error that the words name, if they name one
+-- the kinds of arguments by their values: a text; a text that may be missing; a flag; a flag that can't be given with
+-- another one, which may be given; a number in a range; a number of steps in a range; a step counter; a part, and the
+-- number of all parts; two names, if they are given; the code of an error that the words name, if they name one
 pub data Kind : Type 0 where
   AText : Kind
   Perhaps : Kind
   AFlag : Kind
+  AFlagUnless : (other : Bool) → Kind
   ANumber : (least most : ℕ) → Kind
   ACount : (least most : ℕ) → Kind
   ACounter : Kind
@@ -331,6 +332,7 @@ abbrev pub ValueOf : Kind → Type 0
 ValueOf AText = Text
 ValueOf Perhaps = Option Text
 ValueOf AFlag = Bool
+ValueOf (AFlagUnless other) = Bool
 ValueOf (ANumber least most) = ℕ
 ValueOf (ACount least most) = ℕ
 ValueOf ACounter = ℤ
@@ -351,6 +353,7 @@ abbrev pub Says : Text → List Row → (kind : Kind) → ValueOf kind → Type 
 Says name rows AText text = first_of name rows ≡ Some text
 Says name rows Perhaps text = first_of name rows ≡ text
 Says name rows AFlag given = IsGiven name rows given
+Says name rows (AFlagUnless other) given = IsGiven name rows given × (other && given ≡ false)
 Says name rows (ANumber least most) n = (least ≤ n) × (n ≤ most) × SaysNumber name rows n
 Says name rows (ACount least most) n = (least ≤ n) × (n ≤ most) × SaysCount name rows n
 Says name rows ACounter counter = SaysCounter name rows counter
@@ -484,14 +487,15 @@ code_usage = Takes (codes "JOB") AText (λ job. Takes (codes "energy") AFlag (λ
 abbrev pub curve_usage : Usage CommandView
 curve_usage = Takes (codes "JOB") AText (λ job. Takes (codes "points") (ANumber 1 1000000)
     (λ points. Takes (codes "types") Names (λ types. Takes (codes "energy") AFlag (λ energy. Takes (codes "slope") AFlag
-    (λ slope. Takes (codes "progress") AFlag (λ progress. Gives (Curve (record {
+    (λ slope. Takes (codes "grid") (AFlagUnless energy) (λ grid. Takes (codes "progress") AFlag (λ progress. Gives (Curve (record {
       job = job;
       points = points;
       energy = energy;
       slope = slope;
+      grid = grid;
       types = types;
       progress = progress;
-    }))))))))
+    })))))))))
 
 abbrev pub explain_usage : Usage CommandView
 explain_usage = Takes (codes "CODE") ACode (λ code. Gives (Explain code))
@@ -574,7 +578,7 @@ IsCommand words c = IsCommandOf (pasted words) words c
 
 -- the kinds of fault of arguments that the parser reads: the kinds of the first step of the parse that fails; if no step
 -- fails, the kind is `InvalidValue`: `--steps` or `--every` isn't a number in its range, `--part` isn't a part, `explain`
--- has an unknown code, or `observe` has both `--each` and steps
+-- has an unknown code, `observe` has both `--each` and steps, or `curve` has both `--energy` and `--grid`
 abbrev pub parser_faults_of : List Text → Kinds
 parser_faults_of words = or_else (fault_of program words) (InvalidValue ∷ [])
 

@@ -44,6 +44,7 @@ pub record CurveView : Type 0 where
   pub points : ℕ
   pub energy : Bool
   pub slope : Bool
+  pub grid : Bool
   pub types : Option (Text × Text)
   pub progress : Bool
 

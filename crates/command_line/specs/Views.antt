@@ -54,6 +54,7 @@ curve_view c = record {
   points = c.points;
   energy = c.energy;
   slope = c.slope;
+  grid = c.grid;
   types = names_of c.types;
   progress = c.progress;
 }

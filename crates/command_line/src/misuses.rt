@@ -5,8 +5,8 @@ ghost use Rattle.clap.specs.Words.{kind_of};
 ghost use Rattle.clap.specs.declared.error.kind.ErrorKind.TheVariants.{InvalidValue};
 
 use crate::commands::MAX_STEPS;
-use crate::parsing::{BuiltCommand, explaining, observing, replaying, stepping, visiting};
-use crate::values::{code_of, part_of, path_of, steps_of};
+use crate::parsing::{BuiltCommand, curving, explaining, observing, replaying, stepping, visiting};
+use crate::values::{code_of, is_given, part_of, path_of, steps_of};
 use clap::error::ErrorKind;
 use clap::{ArgMatches, Error};
 use std::alloc::{AllocError, Global};
@@ -31,6 +31,9 @@ pub(crate) fn unnamed(alloc: Global, matches: &ArgMatches<'_>) -> Result<Error, 
     }
     if let Some(part) = no_part_of(matches) {
         return no_part(alloc, part);
+    }
+    if is_given(matches, "grid") {
+        return grid_of_energy(alloc);
     }
     steps_of_each(alloc)
 }
@@ -96,6 +99,14 @@ fn steps_of_each(alloc: Global) -> Result<Error, AllocError>
 {
     let message = "the argument '--each' cannot be used with '--steps <n>'";
     misuse(observing(alloc), "pairmd observe", message)
+}
+
+/// The parser's error for arguments of `curve` with both `--energy` and `--grid`.
+fn grid_of_energy(alloc: Global) -> Result<Error, AllocError>
+    ensures { IfOk result (λ e. kind_of e ≡ InvalidValue) }
+{
+    let message = "the argument '--grid' cannot be used with '--energy'";
+    misuse(curving(alloc), "pairmd curve", message)
 }
 
 /// The parser's error with this message, and the usage of a command. Its callers hold no command: the prover follows each

@@ -17,7 +17,8 @@ use crate::commands::{
 };
 use crate::misuses::{unknown_code, unnamed};
 use crate::values::{
-    code_of, counter_of, is_given, number_of, part_of, path_of, steps_of, turned, types_of,
+    code_of, counter_of, given_unless, is_given, number_of, part_of, path_of, steps_of, turned,
+    types_of,
 };
 use clap::{Arg, ArgMatches, Error};
 use explanations::{code_among, explain};
@@ -136,7 +137,7 @@ fn parse_by<'a, S: AsStr>(
     match command_of(&matches) {
         Some(command) => Ok(command),
         // The parser found every required argument. It doesn't know numbers of steps, nor the codes of errors, nor that
-        // `--each` excludes steps.
+        // `--each` excludes steps, and `--grid` excludes `--energy`.
         None => Err(unnamed(alloc, &matches)?),
     }
 }
@@ -382,12 +383,14 @@ fn curve_of<'a>(matches: &ArgMatches<'a>) -> Option<Command<'a>>
     let types = types_of(matches)?;
     let energy = is_given(matches, "energy");
     let slope = is_given(matches, "slope");
+    let grid = given_unless(matches, "grid", energy)?;
     let progress = is_given(matches, "progress");
     Some(Command::Curve(Curve {
         job,
         points,
         energy,
         slope,
+        grid,
         types,
         progress,
     }))
@@ -575,8 +578,9 @@ fn listing<'a>(alloc: Global) -> BuiltCommand<'a>
     with_arg(of_job(alloc, "code", about), flag(alloc, "energy", help))
 }
 
-/// The command that takes a job, a number of rows, `--energy`, `--slope`, the names of two types, and `--progress`.
-fn curving<'a>(alloc: Global) -> BuiltCommand<'a>
+/// The command that takes a job, a number of rows, `--energy`, `--slope`, `--grid`, the names of two types, and
+/// `--progress`.
+pub(crate) fn curving<'a>(alloc: Global) -> BuiltCommand<'a>
     ensures { IsShaped result curving }
 {
     let about = "Prints the potential of each pair of types, with bounds on its errors";
@@ -586,6 +590,9 @@ fn curving<'a>(alloc: Global) -> BuiltCommand<'a>
     let command = with_arg(command, energy);
     let slope = flag(alloc, "slope", "Print only the slope and its error");
     let command = with_arg(command, slope);
+    let about = "Print also the part of the slope's error that no spelling of the formula avoids";
+    let grid = flag(alloc, "grid", about);
+    let command = with_arg(command, grid);
     with_arg(with_arg(command, types(alloc)), progress(alloc))
 }
 

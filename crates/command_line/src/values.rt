@@ -1,9 +1,9 @@
 //! The values of arguments.
 
-ghost use Rattle.std.specs.Prelude.{◌≡◌, ◌≢◌, ◌∷◌, [], ℕ, ℤ, MatchOption, Option, codes, length, map, option_map};
+ghost use Rattle.std.specs.Prelude.{◌≡◌, ◌≢◌, ◌∷◌, [], Bool, ℕ, ℤ, MatchOption, Option, codes, length, map, option_map};
 ghost use Rattle.clap.specs.Words.{Text, first_of, found_of, rows_of};
 ghost use Rattle.explanations.specs.Explanations.{code_in};
-ghost use Rattle.command_line.specs.CommandLine.{ACount, ACounter, ANumber, APart, IsGiven, Names, Says, WritesCounter, turned, values_of};
+ghost use Rattle.command_line.specs.CommandLine.{ACount, ACounter, AFlagUnless, ANumber, APart, IsGiven, Names, Says, WritesCounter, turned, values_of};
 ghost use Rattle.command_line.specs.Views.{names_of};
 
 use crate::parts::part_of_all;
@@ -81,6 +81,17 @@ pub(crate) fn is_given(matches: &ArgMatches<'_>, flag: &str) -> bool
     match path_of(matches, flag) {
         Some("true") => true,
         _ => false,
+    }
+}
+
+/// Whether a flag is given that can't be given with another one. Returns `None` if both are given.
+pub(crate) fn given_unless(matches: &ArgMatches<'_>, flag: &str, other: bool) -> Option<bool>
+    ensures { MatchOption result ((given : Bool) → Says flag.now (rows_of (found_of matches.now)) (AFlagUnless other) given → ⊥)
+        (Says flag.now (rows_of (found_of matches.now)) (AFlagUnless other)) }
+{
+    match (other, is_given(matches, flag)) {
+        (true, true) => None,
+        (_, given) => Some(given),
     }
 }
 

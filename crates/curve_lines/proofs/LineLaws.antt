@@ -1,7 +1,7 @@
 -- Lines of a table, from the texts after each of their parts.
-use Rattle.std.proofs.Common.{◌≡◌, ◌∙◌, ap, append_assoc, ℕ, ℤ, List, [], ◌∷◌, ◌++◌, Some, refl, codes}
+use Rattle.std.proofs.Common.{◌≡◌, ◌∙◌, ap, append_assoc, Bool, ℕ, ℤ, List, [], ◌∷◌, ◌++◌, Some, refl, codes}
 use Rattle.curve_lines.specs.Numbers.{IsBoundText, value_text}
-use Rattle.curve_lines.specs.Rows.{AreColumns, IsRowText, energy_name, jumps_of, large_of, marks_of, slope_name}
+use Rattle.curve_lines.specs.Rows.{AreColumns, IsGridText, IsRowText, energy_name, has_grid, jumps_of, large_of, marks_of, slope_name}
 use Rattle.curve_lines.specs.Summaries.{AreNamed, IsGreatestText, IsLastLine, IsNamed, without_text}
 use Rattle.curve_lines.specs.declared.columns.CurveColumns.{CurveColumns}
 use Rattle.curve_lines.specs.declared.columns.CurveColumns.TheVariants.{All}
@@ -13,19 +13,22 @@ pub joined : (t0 t1 t2 a b : List ℕ) → t1 ≡ t0 ++ a → t2 ≡ t1 ++ b →
 joined t0 t1 t2 a b first second = second ∙ ap (λ t. t ++ b) first ∙ append_assoc t0 a b
 
 -- the line of a row
-pub row_text : (bits : ℕ) (columns : CurveColumns) (row : Row) (t0 t1 t2 t3 t4 t5 t6 jumps large : List ℕ) → t1 ≡ t0 ++ value_text bits row.distance
-    → t2 ≡ t1 ++ (32 ∷ []) → (n : List ℕ) × AreColumns bits columns row n × (t3 ≡ t2 ++ n) → t4 ≡ t3 ++ jumps → jumps ≡ jumps_of columns row
-    → t5 ≡ t4 ++ large → large ≡ large_of columns row → t6 ≡ t5 ++ (10 ∷ [])
-    → (line : List ℕ) × IsRowText bits columns row line × (t6 ≡ t0 ++ line)
-row_text bits columns row t0 t1 t2 t3 t4 t5 t6 jumps large value blank e put is more also last =
+pub row_text : (bits : ℕ) (columns : CurveColumns) (row : Row) (t0 t1 t2 t3 t4 t5 t6 t7 jumps large : List ℕ)
+    → t1 ≡ t0 ++ value_text bits row.distance → t2 ≡ t1 ++ (32 ∷ []) → (n : List ℕ) × AreColumns bits columns row n × (t3 ≡ t2 ++ n)
+    → (n : List ℕ) × IsGridText bits (has_grid columns) row n × (t4 ≡ t3 ++ n) → t5 ≡ t4 ++ jumps → jumps ≡ jumps_of columns row
+    → t6 ≡ t5 ++ large → large ≡ large_of columns row → t7 ≡ t6 ++ (10 ∷ [])
+    → (line : List ℕ) × IsRowText bits columns row line × (t7 ≡ t0 ++ line)
+row_text bits columns row t0 t1 t2 t3 t4 t5 t6 t7 jumps large value blank e grid put is more also last =
     let first : List ℕ = value_text bits row.distance in
     let after : List ℕ = marks_of columns row ++ (10 ∷ []) in
-    let rest : List ℕ = e.0 ++ after in
-    let t5_is : t5 ≡ t3 ++ marks_of columns row = joined t3 t4 t5 (jumps_of columns row) (large_of columns row) (put ∙ ap (λ m. t3 ++ m) is) (more ∙ ap (λ m. t4 ++ m) also) in
-    let t6_is : t6 ≡ t3 ++ after = joined t3 t5 t6 (marks_of columns row) (10 ∷ []) t5_is last in (
+    let behind : List ℕ = grid.0 ++ after in
+    let rest : List ℕ = e.0 ++ behind in
+    let t6_is : t6 ≡ t4 ++ marks_of columns row = joined t4 t5 t6 (jumps_of columns row) (large_of columns row) (put ∙ ap (λ m. t4 ++ m) is) (more ∙ ap (λ m. t5 ++ m) also) in
+    let t7_is : t7 ≡ t4 ++ after = joined t4 t6 t7 (marks_of columns row) (10 ∷ []) t6_is last in
+    let behind_is : t7 ≡ t3 ++ behind = joined t3 t4 t7 grid.0 after grid.2 t7_is in (
       first ++ (32 ∷ rest),
-      (e.0, e.1, refl),
-      joined t0 t1 t6 first (32 ∷ rest) value (joined t1 t2 t6 (32 ∷ []) rest blank (joined t2 t3 t6 e.0 after e.2 t6_is)),
+      (e.0, grid.0, e.1, grid.1, refl),
+      joined t0 t1 t7 first (32 ∷ rest) value (joined t1 t2 t7 (32 ∷ []) rest blank (joined t2 t3 t7 e.0 behind e.2 behind_is)),
     )
 
 -- a bound and its distance
@@ -50,11 +53,11 @@ summary_text bits name s t0 t1 t2 t3 t4 named blank e without =
     )
 
 -- the summaries of both columns of errors
-pub both_summaries : (bits : ℕ) (energy slope : Summary) (t0 t1 t2 t3 : List ℕ)
+pub both_summaries : (bits : ℕ) (grid : Bool) (energy slope : Summary) (t0 t1 t2 t3 : List ℕ)
     → (n : List ℕ) × IsNamed bits energy_name energy n × (t1 ≡ t0 ++ n) → t2 ≡ t1 ++ codes ", "
     → (n : List ℕ) × IsNamed bits slope_name slope n × (t3 ≡ t2 ++ n)
-    → (piece : List ℕ) × AreNamed bits All energy slope piece × (t3 ≡ t0 ++ piece)
-both_summaries bits energy slope t0 t1 t2 t3 e between s =
+    → (piece : List ℕ) × AreNamed bits (All grid) energy slope piece × (t3 ≡ t0 ++ piece)
+both_summaries bits grid energy slope t0 t1 t2 t3 e between s =
     let mid : List ℕ = codes ", " in
     (e.0 ++ (mid ++ s.0), (e.0, s.0, e.1, s.1, refl), joined t0 t1 t3 e.0 (mid ++ s.0) e.2 (joined t1 t2 t3 mid s.0 between s.2))
 

@@ -1,5 +1,5 @@
--- The lines of a table's rows: values with bounds on their errors, marks if a bound is large or a jump, and a line for each error
--- without a bound.
+-- The lines of a table's rows: values with bounds on their errors, the column of the grid, marks if a bound is large or a jump,
+-- and a line for each error without a bound.
 use Rattle.std.specs.Prelude.{◌≡◌, ◌*◌, ℕ, nat_lt, Bool, true, false, ℤ, unsigned_abs, List, [], ◌∷◌, ◌++◌, Option, Some, None, codes}
 use Rattle.curve_lines.specs.Numbers.{IsBoundText, value_text}
 use Rattle.curve_lines.specs.declared.columns.CurveColumns.{CurveColumns}
@@ -12,12 +12,23 @@ use Rattle.curve_lines.specs.declared.rows.Row.{Row}
 abbrev pub IsWithError : (bits : ℕ) → (value : ℤ) → (bound : Option ℕ) → List ℕ → Type 0
 IsWithError bits value bound text = (error : List ℕ) × IsBoundText bits bound error × (text ≡ value_text bits value ++ (32 ∷ error))
 
--- the columns of a row besides its distance: energy and bound of its error, slope and bound of its error, or both
+-- the energy and the bound of its error, the slope and the bound of its error, or both
 abbrev pub AreColumns : (bits : ℕ) → CurveColumns → Row → List ℕ → Type 0
-AreColumns bits All row text = (energy : List ℕ) × (slope : List ℕ) × IsWithError bits row.energy row.energy_error energy
+AreColumns bits (All grid) row text = (energy : List ℕ) × (slope : List ℕ) × IsWithError bits row.energy row.energy_error energy
     × IsWithError bits row.slope row.slope_error slope × (text ≡ energy ++ (32 ∷ slope))
 AreColumns bits Energy row text = IsWithError bits row.energy row.energy_error text
-AreColumns bits Slope row text = IsWithError bits row.slope row.slope_error text
+AreColumns bits (Slope grid) row text = IsWithError bits row.slope row.slope_error text
+
+-- whether a row's last column is the grid's
+abbrev pub has_grid : CurveColumns → Bool
+has_grid (All grid) = grid
+has_grid Energy = false
+has_grid (Slope grid) = grid
+
+-- the column of the grid, behind a blank, if the table has it
+abbrev pub IsGridText : (bits : ℕ) → (grid : Bool) → Row → List ℕ → Type 0
+IsGridText bits false row text = text ≡ []
+IsGridText bits true row text = (number : List ℕ) × IsBoundText bits row.slope_grid number × (text ≡ 32 ∷ number)
 
 -- whether a value's bound exceeds a thousandth of the value's magnitude; 256 error units are a unit of the value
 abbrev pub is_large : (value : ℤ) → (bound : Option ℕ) → Bool
@@ -45,23 +56,24 @@ large_mark false false = []
 
 -- the marks at the end of a row, for the columns that it has
 abbrev pub jumps_of : CurveColumns → Row → List ℕ
-jumps_of All row = jump_mark row.energy_jumps row.slope_jumps
+jumps_of (All grid) row = jump_mark row.energy_jumps row.slope_jumps
 jumps_of Energy row = jump_mark row.energy_jumps false
-jumps_of Slope row = jump_mark false row.slope_jumps
+jumps_of (Slope grid) row = jump_mark false row.slope_jumps
 
 abbrev pub large_of : CurveColumns → Row → List ℕ
-large_of All row = large_mark (is_only_large row.energy row.energy_error row.energy_jumps)
+large_of (All grid) row = large_mark (is_only_large row.energy row.energy_error row.energy_jumps)
     (is_only_large row.slope row.slope_error row.slope_jumps)
 large_of Energy row = large_mark (is_only_large row.energy row.energy_error row.energy_jumps) false
-large_of Slope row = large_mark false (is_only_large row.slope row.slope_error row.slope_jumps)
+large_of (Slope grid) row = large_mark false (is_only_large row.slope row.slope_error row.slope_jumps)
 
 abbrev pub marks_of : CurveColumns → Row → List ℕ
 marks_of columns row = jumps_of columns row ++ large_of columns row
 
--- the line of a row: its distance, its other columns, and its marks
+-- the line of a row: its distance, its other columns, the grid's last, and its marks
 abbrev pub IsRowText : (bits : ℕ) → CurveColumns → Row → List ℕ → Type 0
-IsRowText bits columns row line = (text : List ℕ) × AreColumns bits columns row text
-    × (line ≡ value_text bits row.distance ++ (32 ∷ (text ++ (marks_of columns row ++ 10 ∷ []))))
+IsRowText bits columns row line = (text : List ℕ) × (grid : List ℕ) × AreColumns bits columns row text
+    × IsGridText bits (has_grid columns) row grid
+    × (line ≡ value_text bits row.distance ++ (32 ∷ (text ++ (grid ++ (marks_of columns row ++ 10 ∷ [])))))
 
 -- rows, and the text of their lines
 pub data AreRowTexts (bits : ℕ) (columns : CurveColumns) : List Row → List ℕ → Type 0 where
@@ -85,7 +97,7 @@ missing_line bits name distance None = codes "# no " ++ (name ++ (codes " from "
 
 -- the lines for a row's errors without a bound
 abbrev pub missing_lines : (bits : ℕ) → CurveColumns → Row → List ℕ
-missing_lines bits All row = missing_line bits energy_name row.distance row.energy_error
+missing_lines bits (All grid) row = missing_line bits energy_name row.distance row.energy_error
     ++ missing_line bits slope_name row.distance row.slope_error
 missing_lines bits Energy row = missing_line bits energy_name row.distance row.energy_error
-missing_lines bits Slope row = missing_line bits slope_name row.distance row.slope_error
+missing_lines bits (Slope grid) row = missing_line bits slope_name row.distance row.slope_error

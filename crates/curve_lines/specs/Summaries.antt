@@ -53,10 +53,10 @@ IsNamed bits name s text = (number : List ℕ) × IsGreatestText bits s.greatest
 
 -- the summary of each column of errors
 abbrev pub AreNamed : (bits : ℕ) → CurveColumns → (energy slope : Summary) → List ℕ → Type 0
-AreNamed bits All energy slope text = (first : List ℕ) × (second : List ℕ) × IsNamed bits energy_name energy first
+AreNamed bits (All grid) energy slope text = (first : List ℕ) × (second : List ℕ) × IsNamed bits energy_name energy first
     × IsNamed bits slope_name slope second × (text ≡ first ++ (codes ", " ++ second))
 AreNamed bits Energy energy slope text = IsNamed bits energy_name energy text
-AreNamed bits Slope energy slope text = IsNamed bits slope_name slope text
+AreNamed bits (Slope grid) energy slope text = IsNamed bits slope_name slope text
 
 -- the line of the greatest bounds
 abbrev pub IsLastLine : (bits : ℕ) → CurveColumns → (energy slope : Summary) → List ℕ → Type 0

@@ -1,7 +1,7 @@
 //! Lines of rows: values with bounds on their errors, and a line for each error without a bound.
 ghost use Rattle.std.specs.Prelude.{◌≡◌, ◌++◌, ℕ, List, None, IfOk};
 ghost use Rattle.fixed.specs.Fractions.{bits_of};
-ghost use Rattle.curve_lines.specs.Rows.{AreColumns, IsRowText, IsWithError, is_large, is_only_large, jump_mark, jumps_of, large_mark, large_of, missing_line, missing_lines};
+ghost use Rattle.curve_lines.specs.Rows.{AreColumns, IsGridText, IsRowText, IsWithError, has_grid, is_large, is_only_large, jump_mark, jumps_of, large_mark, large_of, missing_line, missing_lines};
 
 use crate::columns::CurveColumns;
 use crate::numbers::{put_bound_or_dash, put_value};
@@ -25,6 +25,9 @@ pub struct Row {
     pub slope_error: Option<u64>,
     /// Whether the slope's bound is large because the slope jumps.
     pub slope_jumps: bool,
+    /// The part of the slope's error that no spelling of the formula avoids, in units of 2^-(bits + 8); `None` if none is
+    /// found, or if the table doesn't have its column.
+    pub slope_grid: Option<u64>,
 }
 
 // Appends a value, a blank and the bound of its error.
@@ -42,7 +45,7 @@ fn put_with_error<A: Allocator>(
     put_bound_or_dash(text, frac, bound)
 }
 
-// Appends the columns of a row besides its distance.
+// Appends the energy and the slope of a row, or one of them, with the bounds of their errors.
 fn put_columns<A: Allocator>(
     text: &mut Vec<u8, A>,
     frac: Frac,
@@ -53,13 +56,31 @@ fn put_columns<A: Allocator>(
         × (text.new.items ≡ text.old.items ++ piece)) }
 {
     match columns {
-        CurveColumns::All => {
+        CurveColumns::All { .. } => {
             put_with_error(text, frac, row.energy, row.energy_error)?;
             text.push(b' ')?;
             put_with_error(text, frac, row.slope, row.slope_error)
         }
         CurveColumns::Energy => put_with_error(text, frac, row.energy, row.energy_error),
-        CurveColumns::Slope => put_with_error(text, frac, row.slope, row.slope_error),
+        CurveColumns::Slope { .. } => put_with_error(text, frac, row.slope, row.slope_error),
+    }
+}
+
+// Appends a blank and the column of the grid, if the table has it.
+fn put_grid<A: Allocator>(
+    text: &mut Vec<u8, A>,
+    frac: Frac,
+    columns: CurveColumns,
+    row: &Row,
+) -> Result<(), AllocError>
+    ensures { IfOk result (λ _. (piece : List ℕ) × IsGridText (bits_of frac) (has_grid columns) row.now piece
+        × (text.new.items ≡ text.old.items ++ piece)) }
+{
+    if columns.has_grid() {
+        text.push(b' ')?;
+        put_bound_or_dash(text, frac, row.slope_grid)
+    } else {
+        Ok(())
     }
 }
 
@@ -109,9 +130,9 @@ fn jumps_of(columns: CurveColumns, row: &Row) -> &'static [u8]
     ensures { result.now ≡ jumps_of columns row.now }
 {
     match columns {
-        CurveColumns::All => jump_mark(row.energy_jumps, row.slope_jumps),
+        CurveColumns::All { .. } => jump_mark(row.energy_jumps, row.slope_jumps),
         CurveColumns::Energy => jump_mark(row.energy_jumps, false),
-        CurveColumns::Slope => jump_mark(false, row.slope_jumps),
+        CurveColumns::Slope { .. } => jump_mark(false, row.slope_jumps),
     }
 }
 
@@ -122,9 +143,9 @@ fn large_of(columns: CurveColumns, row: &Row) -> &'static [u8]
     let energy = is_only_large(row.energy, row.energy_error, row.energy_jumps);
     let slope = is_only_large(row.slope, row.slope_error, row.slope_jumps);
     match columns {
-        CurveColumns::All => large_mark(energy, slope),
+        CurveColumns::All { .. } => large_mark(energy, slope),
         CurveColumns::Energy => large_mark(energy, false),
-        CurveColumns::Slope => large_mark(false, slope),
+        CurveColumns::Slope { .. } => large_mark(false, slope),
     }
 }
 
@@ -141,6 +162,7 @@ pub(crate) fn put_row<A: Allocator>(
     put_value(text, frac, row.distance)?;
     text.push(b' ')?;
     put_columns(text, frac, columns, row)?;
+    put_grid(text, frac, columns, row)?;
     text.extend_from_slice(jumps_of(columns, row))?;
     text.extend_from_slice(large_of(columns, row))?;
     text.push(b'\n')?;
@@ -191,7 +213,7 @@ pub(crate) fn put_missing_lines<A: Allocator>(
 {
     let distance = row.distance;
     match columns {
-        CurveColumns::All => {
+        CurveColumns::All { .. } => {
             put_missing(text, frac, b"energy-error", distance, row.energy_error)?;
             put_missing(text, frac, b"slope-error", distance, row.slope_error)
         }
@@ -202,6 +224,12 @@ pub(crate) fn put_missing_lines<A: Allocator>(
             distance,
             row.energy_error,
         ),
-        CurveColumns::Slope => put_missing(text, frac, b"slope-error", distance, row.slope_error),
+        CurveColumns::Slope { .. } => put_missing(
+            text,
+            frac,
+            b"slope-error",
+            distance,
+            row.slope_error,
+        ),
     }
 }

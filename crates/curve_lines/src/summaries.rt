@@ -140,13 +140,13 @@ fn put_summaries<A: Allocator>(
         × (text.new.items ≡ text.old.items ++ piece)) }
 {
     match columns {
-        CurveColumns::All => {
+        CurveColumns::All { .. } => {
             put_summary(text, frac, b"energy-error", energy)?;
             text.extend_from_slice(b", ")?;
             put_summary(text, frac, b"slope-error", slope)
         }
         CurveColumns::Energy => put_summary(text, frac, b"energy-error", energy),
-        CurveColumns::Slope => put_summary(text, frac, b"slope-error", slope),
+        CurveColumns::Slope { .. } => put_summary(text, frac, b"slope-error", slope),
     }
 }
 

@@ -14,7 +14,7 @@ use Rattle.curves.specs.declared.plans.CurvePlan.{CurvePlan}
 pub record HasFirst (j : JobValue) (program : Trees) (plan : CurvePlan) (a b i : ℕ) (body : BodyView) : Type 0 where
   pub rows : List Row
   pub count : length rows ≡ i
-  pub each : (k : ℕ) (row : Row) → slice_get rows k ≡ Some row → IsRow j program plan.points a b k row
+  pub each : (k : ℕ) (row : Row) → slice_get rows k ≡ Some row → IsRow j program plan a b k row
   pub has : HasRows body rows
   pub frac : body.frac ≡ j.frac
   pub columns : body.columns ≡ plan.columns
@@ -33,17 +33,17 @@ module _ (j : JobValue) (program : Trees) (plan : CurvePlan) (a b : ℕ) where
 
   -- a row at an index of rows and one more
   each_more : (rows : List Row) (row : Row) (i : ℕ) → length rows ≡ i
-      → ((k : ℕ) (other : Row) → slice_get rows k ≡ Some other → IsRow j program plan.points a b k other)
-      → IsRow j program plan.points a b i row
-      → (k : ℕ) (other : Row) → slice_get (rows ++ (row ∷ [])) k ≡ Some other → IsRow j program plan.points a b k other
+      → ((k : ℕ) (other : Row) → slice_get rows k ≡ Some other → IsRow j program plan a b k other)
+      → IsRow j program plan a b i row
+      → (k : ℕ) (other : Row) → slice_get (rows ++ (row ∷ [])) k ≡ Some other → IsRow j program plan a b k other
   each_more rows row i count each is k other its = elim (seam rows row k other its) [
     | inl there ↦ each k other there
-    | inr last ↦ subst (λ n. IsRow j program plan.points a b n other) (sym (last.0 ∙ count))
-        (subst (IsRow j program plan.points a b i) last.1 is)
+    | inr last ↦ subst (λ n. IsRow j program plan a b n other) (sym (last.0 ∙ count))
+        (subst (IsRow j program plan a b i) last.1 is)
   ]
 
   -- one more row
-  pub more_rows : (i : ℕ) (body more : BodyView) (row : Row) → HasFirst j program plan a b i body → IsRow j program plan.points a b i row
+  pub more_rows : (i : ℕ) (body more : BodyView) (row : Row) → HasFirst j program plan a b i body → IsRow j program plan a b i row
       → ((rows : List Row) → HasRows body rows → HasRows more (rows ++ (row ∷ []))) → more.frac ≡ body.frac → more.columns ≡ body.columns
       → HasFirst j program plan a b (i + 1) more
   more_rows i body more row first is add frac columns = record {

@@ -6,3 +6,4 @@ pub mod TableLaws
 pub mod BoundLaws
 pub mod ReportLaws
 pub mod WritingLaws
+pub mod GridLaws

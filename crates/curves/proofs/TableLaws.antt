@@ -1,5 +1,5 @@
 -- Values of a job's potential at a distance, its refusals, the inputs of a pair of types, and the texts of tables.
-use Rattle.std.proofs.Common.{◌≡◌, ◌∙◌, ℕ, ◌<◌, ◌≤◌, ◌*◌, ◌/◌, Bool, ◌&&◌, List, [], ◌∷◌, ◌++◌, length, map, subst, sym, refl, arith, ap, inr, ℤ, IfOk, Some, Result, zero, suc, IsTrue, slice_index_or}
+use Rattle.std.proofs.Common.{◌≡◌, ◌∙◌, ℕ, ◌<◌, ◌≤◌, ◌*◌, ◌/◌, Bool, ◌&&◌, List, [], ◌∷◌, ◌++◌, length, map, subst, sym, refl, arith, ap, inr, ℤ, IfOk, Option, Some, Result, zero, suc, IsTrue, slice_index_or}
 use Rattle.std.proofs.lemmas.List.{length-map}
 use Rattle.std.proofs.lemmas.Nat.{mul-le}
 use Rattle.std.proofs.Math.Nat.{div-le_of_le-mul}
@@ -33,7 +33,7 @@ use Rattle.curves.specs.Slices.{AreBoundsOver, AreWorstOver, BoundsView, in_colu
 use Rattle.curves.specs.declared.slices.Column.{Column}
 use Rattle.curves.specs.declared.slices.Column.TheVariants.{Energy, Slope}
 use Rattle.curves.specs.SoFar.{HasBody}
-use Rattle.curves.specs.Tables.{AreBothTables, AreRows, HasNoCurve, IsRow, IsTable, IsTableBody, OfPotential, all_distances, constants_of, distance_of, distances_of, names_text, others_of, pair_line, table_text}
+use Rattle.curves.specs.Tables.{AreBothTables, AreRows, HasNoCurve, IsGridOf, IsRow, IsTable, IsTableBody, OfPotential, all_distances, constants_of, distance_of, distances_of, names_text, others_of, pair_line, table_text}
 use Rattle.curves.specs.declared.plans.CurvePlan.{CurvePlan}
 use Rattle.curves.specs.declared.potentials.Potential.{Potential}
 
@@ -98,7 +98,7 @@ inputs_are j a b r =
 
 -- ---- rows
 
-module _ (j : JobValue) (program : Trees) (points i : ℕ) (bounds : BoundsView) where
+module _ (j : JobValue) (program : Trees) (plan : CurvePlan) (i : ℕ) (bounds : BoundsView) where
   -- whether a column's bound is large and a jump, if the worst part has these distances
   abbrev jump : (others : List Constant) → Column → (value : ℤ) → Range → Bool
   jump others column value r =
@@ -106,18 +106,19 @@ module _ (j : JobValue) (program : Trees) (points i : ℕ) (bounds : BoundsView)
 
   -- bounds over the distances of a row, and whether they are large and jumps
   record AreMarked (energy slope : ℤ) (energy_jumps slope_jumps : Bool) (others : List Constant) : Type 0 where
-    over : AreBoundsOver (bits_of j.frac) program others (distances_of j points i) bounds
+    over : AreBoundsOver (bits_of j.frac) program others (distances_of j plan.points i) bounds
     energy_is : energy_jumps ≡ jump others Energy energy over.energy.1.range
     slope_is : slope_jumps ≡ jump others Slope slope over.slope.1.range
 
   -- the parts of a row
-  pub is_row : (a b : ℕ) (query : Query) (distance energy slope : ℤ) (energy_jumps slope_jumps : Bool) (others : List Constant)
-      (of_energy of_slope : Range) → query ≡ record { a = a; b = b; r = distance } → distance ≡ distance_of j points i
+  pub is_row : (a b : ℕ) (query : Query) (distance energy slope : ℤ) (energy_jumps slope_jumps : Bool) (slope_grid : Option ℕ)
+      (others : List Constant) (of_energy of_slope : Range) → query ≡ record { a = a; b = b; r = distance } → distance ≡ distance_of j plan.points i
       → value_of (bits_of j.frac) (inputs_of (table_of j) query.a query.b query.r) (substituted program.0 program.1) ≡ Some energy
       → slope_of (bits_of j.frac) (inputs_of (table_of j) query.a query.b query.r) (substituted program.0 program.1) ≡ Some slope
-      → others ≡ others_of j a b → AreWorstOver (bits_of j.frac) program others (distances_of j points i) bounds of_energy of_slope
+      → others ≡ others_of j a b → AreWorstOver (bits_of j.frac) program others (distances_of j plan.points i) bounds of_energy of_slope
       → energy_jumps ≡ jump others Energy energy of_energy → slope_jumps ≡ jump others Slope slope of_slope
-      → IsRow j program points a b i (record {
+      → IsGridOf j program plan.columns others distance slope_grid
+      → IsRow j program plan a b i (record {
         distance = distance;
         energy = energy;
         energy_error = bounds.energy;
@@ -125,8 +126,9 @@ module _ (j : JobValue) (program : Trees) (points i : ℕ) (bounds : BoundsView)
         slope = slope;
         slope_error = bounds.slope;
         slope_jumps = slope_jumps;
+        slope_grid = slope_grid;
       })
-  is_row a b query distance energy slope energy_jumps slope_jumps others of_energy of_slope same at e s these worst ej sj =
+  is_row a b query distance energy slope energy_jumps slope_jumps slope_grid others of_energy of_slope same at e s these worst ej sj grid =
       let marked : AreMarked energy slope energy_jumps slope_jumps others = record {
         over = worst.over;
         energy_is = ej ∙ ap (jump others Energy energy) worst.energy_is;
@@ -140,6 +142,7 @@ module _ (j : JobValue) (program : Trees) (points i : ℕ) (bounds : BoundsView)
         bounds = are.over;
         energy_jumps = are.energy_is;
         slope_jumps = are.slope_is;
+        grid = subst (λ (xs : List Constant). IsGridOf j program plan.columns xs distance slope_grid) these grid;
       }
 
 -- ---- tables
@@ -159,8 +162,8 @@ module _ (j : JobValue) (program : Trees) (plan : CurvePlan) where
   is_body a b c d body text is ca db lines =
       record {
         rows = is.rows;
-        are_rows = subst (λ x. AreRows j program plan.points x b is.rows) ca
-            (subst (λ x. AreRows j program plan.points c x is.rows) db is.are_rows);
+        are_rows = subst (λ x. AreRows j program plan x b is.rows) ca
+            (subst (λ x. AreRows j program plan c x is.rows) db is.are_rows);
         is_body = subst (λ f. IsBodyText (bits_of f) plan.columns is.rows text) is.frac
             (subst (λ x. IsBodyText (bits_of body.frac) x is.rows text) is.columns lines);
       }

@@ -1,4 +1,5 @@
 pub mod Slices
+pub mod Grids
 pub mod Tables
 pub mod SoFar
 pub mod Potentials

@@ -15,7 +15,7 @@ use Rattle.curves.specs.declared.plans.CurvePlan.{CurvePlan}
 -- the body has all rows of the table for the types a and b
 pub record HasBody (j : JobValue) (program : Trees) (plan : CurvePlan) (a b : ℕ) (body : BodyView) : Type 0 where
   pub rows : List Row
-  pub are_rows : AreRows j program plan.points a b rows
+  pub are_rows : AreRows j program plan a b rows
   pub has : HasRows body rows
   pub frac : body.frac ≡ j.frac
   pub columns : body.columns ≡ plan.columns

@@ -1,7 +1,8 @@
 -- The text that `curve` prints for a job: a table for each pair of types, or for one pair, with the potential as it is
 -- computed, and bounds on its distance from the formula over exact numbers.
-use Rattle.std.specs.Prelude.{◌≡◌, ◌≢◌, ◌⊎◌, ◌<◌, ◌+◌, ◌*◌, ◌/◌, ◌==◌, ◌&&◌, ℕ, zero, suc, if◌then◌else◌, ℤ, pos, ◌+ℤ◌, ◌-ℤ◌, unsigned_abs, List, [], ◌++◌, length, map, slice_get, slice_index_or, Option, Some, None, IfSome, Ok, codes}
+use Rattle.std.specs.Prelude.{◌≡◌, ◌≢◌, ◌⊎◌, ◌<◌, ◌+◌, ◌*◌, ◌/◌, ◌==◌, ◌&&◌, ℕ, zero, suc, true, false, if◌then◌else◌, ℤ, pos, ◌+ℤ◌, ◌-ℤ◌, unsigned_abs, List, [], ◌++◌, length, map, slice_get, slice_index_or, Option, Some, None, IfSome, Ok, codes}
 use Rattle.std.specs.Int.{int_max}
+use Rattle.derivative.specs.Derive.{slope_program}
 use Rattle.derivative.specs.DualNumbers.{IsScoped}
 use Rattle.derivative.specs.Slope.{slope_of}
 use Rattle.energy_program.specs.Programs.{Trees}
@@ -20,10 +21,11 @@ use Rattle.potential.specs.Verdicts.{HasNoSlopeKernel, IsSlopeKernel}
 use Rattle.potential.specs.declared.faults.EnergyFault.{EnergyFault}
 use Rattle.verifier.specs.Kernels.{Kernel}
 use Rattle.curve_lines.specs.Bodies.{IsBodyText}
-use Rattle.curve_lines.specs.Rows.{is_large}
+use Rattle.curve_lines.specs.Rows.{has_grid, is_large}
 use Rattle.curve_lines.specs.declared.columns.CurveColumns.{CurveColumns}
 use Rattle.curve_lines.specs.declared.columns.CurveColumns.TheVariants.{All, Energy, Slope}
 use Rattle.curve_lines.specs.declared.rows.Row.{Row}
+use Rattle.curves.specs.Grids.{grid_at}
 use Rattle.curves.specs.Slices.{AreBoundsOver, BoundsView, bounds_view, jumps_over}
 use Rattle.curves.specs.declared.slices.Column.TheVariants as column
 use Rattle.curves.specs.declared.plans.CurvePlan.{CurvePlan}
@@ -61,23 +63,30 @@ others_of j a b = constants_of j a ++ (constants_of j b ++ map (λ g. g.value) j
 abbrev pub bounds_in : Row → BoundsView
 bounds_in row = bounds_view row.energy_error row.slope_error
 
+-- if the columns have the grid, the change of the slope from a distance to one unit above it; else none
+abbrev pub IsGridOf : JobValue → Trees → CurveColumns → (others : List Constant) → (distance : ℤ) → Option ℕ → Type 0
+IsGridOf j program columns others distance grid = (slope : Trees) × (slope_program (bits_of j.frac) program ≡ Ok slope)
+    × (grid ≡ (if has_grid columns then grid_at (bits_of j.frac) slope others distance else None))
+
 -- Row i of the rows from 0 to n for the types a and b: the values of the energy and of its slope, as the program
 -- computes them, at the row's distance, and bounds on their errors at all distances that the row covers. Of a large bound
--- the row has whether it is a jump.
-pub record IsRow (j : JobValue) (program : Trees) (points a b i : ℕ) (row : Row) : Type 0 where
-  pub distance : row.distance ≡ distance_of j points i
+-- the row has whether it is a jump. If the plan has the grid, the row has the part of the slope's error that no spelling of
+-- the formula avoids.
+pub record IsRow (j : JobValue) (program : Trees) (plan : CurvePlan) (a b i : ℕ) (row : Row) : Type 0 where
+  pub distance : row.distance ≡ distance_of j plan.points i
   pub energy : value_of (bits_of j.frac) (inputs_of (table_of j) a b row.distance) (substituted program.0 program.1) ≡ Some row.energy
   pub slope : slope_of (bits_of j.frac) (inputs_of (table_of j) a b row.distance) (substituted program.0 program.1) ≡ Some row.slope
-  pub bounds : AreBoundsOver (bits_of j.frac) program (others_of j a b) (distances_of j points i) (bounds_in row)
+  pub bounds : AreBoundsOver (bits_of j.frac) program (others_of j a b) (distances_of j plan.points i) (bounds_in row)
   pub energy_jumps : row.energy_jumps ≡ (is_large row.energy row.energy_error
       && jumps_over (bits_of j.frac) program (others_of j a b) (all_distances j) column.Energy bounds.energy.1.range)
   pub slope_jumps : row.slope_jumps ≡ (is_large row.slope row.slope_error
       && jumps_over (bits_of j.frac) program (others_of j a b) (all_distances j) column.Slope bounds.slope.1.range)
+  pub grid : IsGridOf j program plan.columns (others_of j a b) row.distance row.slope_grid
 
 -- the rows from 0 to n of the table for the types a and b, in order
-pub record AreRows (j : JobValue) (program : Trees) (points a b : ℕ) (rows : List Row) : Type 0 where
-  pub count : length rows ≡ suc points
-  pub each : (i : ℕ) (row : Row) → slice_get rows i ≡ Some row → IsRow j program points a b i row
+pub record AreRows (j : JobValue) (program : Trees) (plan : CurvePlan) (a b : ℕ) (rows : List Row) : Type 0 where
+  pub count : length rows ≡ suc plan.points
+  pub each : (i : ℕ) (row : Row) → slice_get rows i ≡ Some row → IsRow j program plan a b i row
 
 -- ---- tables
 
@@ -87,14 +96,16 @@ names_text first second = codes "# " ++ (first ++ (codes " " ++ (second ++ codes
 
 -- the names and units of the columns
 abbrev pub columns_text : CurveColumns → List ℕ
-columns_text All = codes "# r/nm energy/(kJ/mol) energy-error slope/(kJ/mol/nm) slope-error\n"
+columns_text (All false) = codes "# r/nm energy/(kJ/mol) energy-error slope/(kJ/mol/nm) slope-error\n"
+columns_text (All true) = codes "# r/nm energy/(kJ/mol) energy-error slope/(kJ/mol/nm) slope-error slope-grid\n"
 columns_text Energy = codes "# r/nm energy/(kJ/mol) energy-error\n"
-columns_text Slope = codes "# r/nm slope/(kJ/mol/nm) slope-error\n"
+columns_text (Slope false) = codes "# r/nm slope/(kJ/mol/nm) slope-error\n"
+columns_text (Slope true) = codes "# r/nm slope/(kJ/mol/nm) slope-error slope-grid\n"
 
 -- the body of the table of a pair of types
 pub record IsTableBody (j : JobValue) (program : Trees) (plan : CurvePlan) (a b : ℕ) (body : List ℕ) : Type 0 where
   pub rows : List Row
-  pub are_rows : AreRows j program plan.points a b rows
+  pub are_rows : AreRows j program plan a b rows
   pub is_body : IsBodyText (bits_of j.frac) plan.columns rows body
 
 -- the line of the names of the types with these numbers

@@ -14,6 +14,7 @@ ghost use Rattle.error_bounds.specs.Approximations.{Approximation};
 ghost use Rattle.error_bounds.specs.Ordered.{AreOrdered};
 ghost use Rattle.interval_domain.specs.Ranges.{Range};
 ghost use Rattle.curve_lines.specs.declared.rows.Row.{Row};
+ghost use Rattle.curves.specs.declared.plans.CurvePlan.{CurvePlan};
 ghost use Rattle.formula_bounds.specs.Entries.{entry_of_program};
 ghost use Rattle.curves.specs.Slices.{AreBoundsOver, AreRight, AreRightOfDerivatives, BoundsView};
 ghost use Rattle.curves.specs.Tables.{IsRow, bounds_in, distances_of, others_of};
@@ -49,7 +50,7 @@ pub fn errors_are_bounded<V>()
     // The values of a row are computed on the numbers of the constants for which its bounds are.
     ensures inputs { (j : JobValue) (a b : ℕ) (r : ℤ) → inputs_of (table_of j) a b r ≡ r ∷ numbers_of (others_of j a b) }
     // The bounds of a row that `curve` prints are right for its pair of types, at each distance that the row covers.
-    ensures rows { (k : Numbers V) → AreOrdered k → (j : JobValue) (program : Trees) (inputs points a b i : ℕ) (row : Row)
-        → IsScoped inputs program → IsRow j program points a b i row
-        → AreRight k (bits_of j.frac) program (others_of j a b) (distances_of j points i) (bounds_in row) }
+    ensures rows { (k : Numbers V) → AreOrdered k → (j : JobValue) (program : Trees) (plan : CurvePlan) (inputs a b i : ℕ) (row : Row)
+        → IsScoped inputs program → IsRow j program plan a b i row
+        → AreRight k (bits_of j.frac) program (others_of j a b) (distances_of j plan.points i) (bounds_in row) }
 {}

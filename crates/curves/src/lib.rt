@@ -2,6 +2,7 @@
 #![tactic(auto)]
 
 mod faults;
+mod grids;
 mod jumps;
 mod laws;
 mod pairs;

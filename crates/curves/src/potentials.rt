@@ -1,9 +1,10 @@
-//! A job's potential: the accepted code of its slope and of its energy, and its formula.
+//! A job's potential: the accepted code of its slope and of its energy, its formula, and the formula of its slope.
 ghost use Rattle.std.specs.Prelude.{◌≡◌, ◌*◌, ℕ, IfOk, IfErr, OnOk, Some, Ok, length};
 ghost use Rattle.fallible.specs.Failures.{IfRefused};
 ghost use Rattle.fixed.specs.Fractions.{bits_of};
+ghost use Rattle.derivative.specs.Derive.{slope_program};
 ghost use Rattle.derivative.specs.Slope.{slope_of};
-ghost use Rattle.energy_program.specs.Programs.{program_tree, trees_of};
+ghost use Rattle.energy_program.specs.Programs.{Trees, program_tree, trees_of};
 ghost use Rattle.energy_program.specs.Value.{value_of};
 ghost use Rattle.job.specs.Views.{job_value};
 ghost use Rattle.kernel_code.specs.Tables.{inputs_of};
@@ -13,18 +14,20 @@ ghost use Rattle.potential.specs.EnergyKernels.{HasNoEnergyKernel};
 ghost use Rattle.potential.specs.Progress.{IsPassedBefore, slices_of};
 ghost use Rattle.potential.specs.Tables.{table_of};
 ghost use Rattle.potential.specs.Verdicts.{HasNoSlopeKernel, IsSlopeKernel};
-ghost use Rattle.curves.specs.Potentials.{IsPotentialOf};
+ghost use Rattle.curves.specs.Potentials.{IsDerived, IsPotentialOf};
 ghost use Rattle.curves.specs.Progress.{IsStoppedAfter};
 ghost use Rattle.curves.specs.Tables.{HasNoCurve};
 
+use derivative::derive;
+use energy_program::Program;
 use fallible::Failure;
-use fixed::Fx;
+use fixed::{Frac, Fx};
 use formula_bounds::Formula;
 use job::Job;
 use kernel_lanes::Query;
 use kernel_machine::Stack;
 use potential::{EnergyFault, LaneKernel, SlopeKernel, energy_kernel, job_slope};
-use std::alloc::Allocator;
+use std::alloc::{AllocError, Allocator};
 use verifier::Progress;
 
 /// A job's potential.
@@ -36,6 +39,8 @@ pub(crate) struct Potential<A: Allocator> {
     pub(crate) energy: LaneKernel<A>,
     /// The energy's formula.
     pub(crate) formula: Formula<A>,
+    /// The slope's formula, for its own derivative.
+    pub(crate) derived: Formula<A>,
 }
 
 // A job's energy, and the accepted code of its slope. Reports each accepted slice.
@@ -62,6 +67,22 @@ fn slope_kernel<A: Allocator + Copy, W: Progress>(
     }
 }
 
+// The formula of the derivative of a program.
+fn derived_formula<A: Allocator + Copy>(
+    alloc: A,
+    frac: Frac,
+    program: &Program<A>,
+) -> Result<Formula<A>, AllocError>
+    requires { (slope : Trees) × (slope_program (bits_of frac) (trees_of program.now) ≡ Ok slope) }
+    ensures { IfOk result (IsDerived (bits_of frac) (trees_of program.now)) }
+{
+    match derive(alloc, frac, program) {
+        Ok(slope) => Formula::new(alloc, &slope),
+        Err(Failure::Memory) => Err(AllocError),
+        Err(Failure::Refused(_)) => unreachable!(),
+    }
+}
+
 impl<A: Allocator + Copy> Potential<A> {
     // The potential with this slope. Reports each accepted slice of the energy's code.
     fn with_slope<W: Progress>(
@@ -83,10 +104,12 @@ impl<A: Allocator + Copy> Potential<A> {
     {
         let energy = energy_kernel(alloc, job, &slope.energy, watch)?;
         let formula = Formula::new(alloc, &slope.energy)?;
+        let derived = derived_formula(alloc, job.frac, &slope.energy)?;
         Ok(Potential {
             slope,
             energy,
             formula,
+            derived,
         })
     }
 

@@ -9,13 +9,15 @@ ghost use Rattle.interval_domain.specs.Views.{span_range};
 ghost use Rattle.curves.specs.Potentials.{IsPotentialOf};
 ghost use Rattle.curve_lines.specs.Rows as rows;
 ghost use Rattle.curves.specs.Slices.{AreWorstOver, bounds_view, jumps_over};
-ghost use Rattle.curves.specs.Tables.{IsRow, all_distances, distance_of, distances_of, others_of};
+ghost use Rattle.curves.specs.Tables.{IsGridOf, IsRow, all_distances, distance_of, distances_of, others_of};
 
+use crate::grids::grid_at;
 use crate::jumps::jumps_over;
 use crate::pairs::Pair;
+use crate::plans::CurvePlan;
 use crate::potentials::Potential;
 use crate::slices::{Column, WorstPart, WorstParts, bounds_over};
-use curve_lines::{Row, is_large};
+use curve_lines::{CurveColumns, Row, is_large};
 use fixed::Fx;
 use interval_domain::Span;
 use job::Job;
@@ -141,6 +143,25 @@ fn is_jump<A: Allocator + Copy>(
     }
 }
 
+// The change of a pair's slope from a distance to one unit above it, if these columns have the grid.
+fn grid_of<A: Allocator + Copy>(
+    alloc: A,
+    job: &Job<A>,
+    potential: &Potential<A>,
+    pair: &Pair<A>,
+    columns: CurveColumns,
+    distance: Fx,
+) -> Result<Option<u64>, AllocError>
+    requires is { IsPotentialOf (job_value job.now) potential.now }
+    ensures { IfOk result (IsGridOf (job_value job.now) (trees_of potential.now.slope.energy) columns pair.now.others.items distance) }
+{
+    if columns.has_grid() {
+        grid_at(alloc, &potential.derived, job.frac, &pair.others, distance)
+    } else {
+        Ok(None)
+    }
+}
+
 // The request for a pair's value at a distance.
 fn query_of<A: Allocator>(job: &Job<A>, potential: &Potential<A>, pair: &Pair<A>, r: Fx) -> Query
     requires is { IsPotentialOf (job_value job.now) potential.now }
@@ -165,40 +186,25 @@ pub(crate) fn row_at<A: Allocator + Copy>(
     job: &Job<A>,
     potential: &Potential<A>,
     pair: &Pair<A>,
-    points: u32,
+    plan: &CurvePlan,
     i: u32,
 ) -> Result<Row, AllocError>
-    requires some { 1 ≤ points }
-    requires within { i ≤ points }
+    requires within { i ≤ plan.now.points }
     requires is { IsPotentialOf (job_value job.now) potential.now }
     requires first { pair.now.a < length job.now.types.items }
     requires second { pair.now.b < length job.now.types.items }
     requires others { pair.now.others.items ≡ others_of (job_value job.now) pair.now.a pair.now.b }
-    ensures { IfOk result (IsRow (job_value job.now) (trees_of potential.now.slope.energy) points pair.now.a pair.now.b i) }
+    ensures { IfOk result (IsRow (job_value job.now) (trees_of potential.now.slope.energy) plan.now pair.now.a pair.now.b i) }
 {
-    let worst = bounds_at(alloc, job, potential, pair, points, i)?;
-    let distance = distance_at(job, points, i);
+    let worst = bounds_at(alloc, job, potential, pair, plan.points, i)?;
+    let distance = distance_at(job, plan.points, i);
     let query = query_of(job, potential, pair, distance);
     let energy = potential.energy_at(job, &query);
     let slope = potential.slope_at(job, &query);
-    let energy_jumps = is_jump(
-        alloc,
-        job,
-        potential,
-        pair,
-        Column::Energy,
-        energy,
-        worst.energy,
-    )?;
-    let slope_jumps = is_jump(
-        alloc,
-        job,
-        potential,
-        pair,
-        Column::Slope,
-        slope,
-        worst.slope,
-    )?;
+    let (first, second) = (worst.energy, worst.slope);
+    let energy_jumps = is_jump(alloc, job, potential, pair, Column::Energy, energy, first)?;
+    let slope_jumps = is_jump(alloc, job, potential, pair, Column::Slope, slope, second)?;
+    let slope_grid = grid_of(alloc, job, potential, pair, plan.columns, distance)?;
     Ok(Row {
         distance,
         energy,
@@ -207,5 +213,6 @@ pub(crate) fn row_at<A: Allocator + Copy>(
         slope,
         slope_error: worst.slope.bound,
         slope_jumps,
+        slope_grid,
     })
 }

@@ -161,8 +161,8 @@ fn lesser(x: Option<u64>, y: Option<u64>) -> Option<u64>
     }
 }
 
-// The inputs with distances in the range, and the others as they were read.
-fn inputs_on<A: Allocator + Copy>(
+/// The inputs with distances in the range, and the others as they were read.
+pub(crate) fn inputs_on<A: Allocator + Copy>(
     alloc: A,
     others: &[Constant],
     range: Span,

@@ -40,7 +40,7 @@ fn body_of<A: Allocator + Copy, W: Progress>(
 {
     let mut body = Body::new(alloc, job.frac, plan.columns);
     for i in 0..plan.points + 1 {
-        let row = row_at(alloc, job, potential, pair, plan.points, i)?;
+        let row = row_at(alloc, job, potential, pair, plan, i)?;
         body.add(&row)?;
         watch.pass(1);
     }
@@ -67,11 +67,15 @@ fn column_names(columns: CurveColumns) -> &'static [u8]
     ensures { result.now ≡ columns_text columns }
 {
     match columns {
-        CurveColumns::All => {
+        CurveColumns::All { grid: false } => {
             b"# r/nm energy/(kJ/mol) energy-error slope/(kJ/mol/nm) slope-error\n"
         }
+        CurveColumns::All { grid: true } => {
+            b"# r/nm energy/(kJ/mol) energy-error slope/(kJ/mol/nm) slope-error slope-grid\n"
+        }
         CurveColumns::Energy => b"# r/nm energy/(kJ/mol) energy-error\n",
-        CurveColumns::Slope => b"# r/nm slope/(kJ/mol/nm) slope-error\n",
+        CurveColumns::Slope { grid: false } => b"# r/nm slope/(kJ/mol/nm) slope-error\n",
+        CurveColumns::Slope { grid: true } => b"# r/nm slope/(kJ/mol/nm) slope-error slope-grid\n",
     }
 }
 

@@ -597,6 +597,95 @@ none.
   pairmd: V2 Fault AR AR r 858993459 pc 19 F2 ZeroDivisor
   [3]
 
+## The grid
+
+`--grid` adds what a slope changes over a unit: 2^-32 times the second derivative, in error units, rounded up. Of 1/r it
+is 2^-31 / r^3. The second derivative of r^2 is 2, and no spelling has a slope with a lesser bound.
+
+  $ with job 2 'energy 1/r' pairmd curve job --points 4 --grid
+  # AR AR
+  # r/nm energy/(kJ/mol) energy-error slope/(kJ/mol/nm) slope-error slope-grid
+  0.199999999953 5.000000001164 5.83e-9 -25.000000122469 2.17e-7 5.83e-8
+  0.374999999767 2.666666668141 1.66e-9 -7.111111123115 2.19e-8 8.84e-9
+  0.549999999814 1.818181818584 7.71e-10 -3.305785126751 5.80e-9 2.80e-9
+  0.724999999627 1.379310345510 4.44e-10 -1.902497029863 2.45e-9 1.23e-9
+  0.899999999674 1.111111111473 2.89e-10 -1.234567902284 1.23e-9 6.40e-10
+  # greatest energy-error 5.83e-9 at 0.199999999953, slope-error 2.17e-7 at 0.199999999953
+  $ with job 2 'energy r^2' pairmd curve job --points 1 --grid
+  # AR AR
+  # r/nm energy/(kJ/mol) energy-error slope/(kJ/mol/nm) slope-error slope-grid
+  0.199999999953 0.039999999804 6.53e-10 0.399999999907 4.66e-10 4.66e-10
+  0.899999999674 0.809999999357 6.53e-10 1.799999999348 4.66e-10 4.66e-10
+  # greatest energy-error 6.53e-10 at 0.199999999953, slope-error 4.66e-10 at 0.199999999953
+  $ with job 2 'energy r' pairmd curve job --points 1 --grid
+  # AR AR
+  # r/nm energy/(kJ/mol) energy-error slope/(kJ/mol/nm) slope-error slope-grid
+  0.199999999953 0.199999999953 2.33e-10 1.000000000000 0 0
+  0.899999999674 0.899999999674 2.33e-10 1.000000000000 0 0
+  # greatest energy-error 2.33e-10 at 0.199999999953, slope-error 0 at 0.199999999953
+
+Of a Lennard-Jones energy it is 2^-32 4.4 (156 0.34^12 / r^14 - 42 0.34^6 / r^8).
+
+  $ with job 2 'energy 4*1.1*((0.34/r)^12-(0.34/r)^6)' pairmd curve job --points 2 --slope --grid
+  # AR AR
+  # r/nm slope/(kJ/mol/nm) slope-error slope-grid
+  0.199999999953 -150626.112897295039 3.87e-3 2.31e-3
+  0.549999999814 2.379793193890 4.37e-8 6.30e-9
+  0.899999999674 0.084771071095 8.58e-9 1.53e-10
+  # greatest slope-error 3.87e-3 at 0.199999999953
+
+At a kink the second derivatives of both sides count. The marks follow. A jump of the slope isn't part of the grid's.
+
+  $ with job 2 'energy abs(r-0.55)*r' pairmd curve job --points 2 --grid
+  # AR AR
+  # r/nm energy/(kJ/mol) energy-error slope/(kJ/mol/nm) slope-error slope-grid
+  0.199999999953 0.069999999832 3.06e-10 0.150000000140 5.13e-10 4.66e-10
+  0.549999999814 0.000000000000 5.67e-10 -0.549999999581 1.15e0 1.40e-9 # jump slope-error # large energy-error
+  0.899999999674 0.314999999478 5.67e-10 1.249999999302 5.13e-10 4.66e-10
+  # greatest energy-error 5.67e-10 at 0.549999999814, slope-error 1.15e0 at 0.549999999814
+  $ with job 2 'energy abs(r-0.55)' pairmd curve job --points 2 --slope --grid
+  # AR AR
+  # r/nm slope/(kJ/mol/nm) slope-error slope-grid
+  0.199999999953 -1.000000000000 0 0
+  0.549999999814 -1.000000000000 2.00e0 0 # jump slope-error
+  0.899999999674 1.000000000000 0 0
+  # greatest slope-error 2.00e0 at 0.549999999814
+
+The second derivative has no approximation if it has no value: (r - 0.1999)^4 is 0 at the core.
+
+  $ with job 2 'energy 1e-4/(r-0.1999)' pairmd curve job --points 2 --grid
+  # AR AR
+  # r/nm energy/(kJ/mol) energy-error slope/(kJ/mol/nm) slope-error slope-grid
+  0.199999999953 1.000000000000 1.88e-6 -10226.119047619170 2.56e2 - # large slope-error
+  0.549999999814 0.000285632676 1.83e-10 -0.000815860927 7.56e-10 1.82e-12
+  0.899999999674 0.000142836710 1.44e-10 -0.000204023672 3.64e-10 9.10e-13
+  # greatest energy-error 1.88e-6 at 0.199999999953, slope-error 2.56e2 at 0.199999999953
+
+At 40 bits a unit is a 256th.
+
+  $ with job 6 'slices 64\nbits 40' with job 2 'energy 1/r' pairmd curve job --points 1 --slope --grid
+  # AR AR
+  # r/nm slope/(kJ/mol/nm) slope-error slope-grid
+  0.19999999999982 -25.00000000059208 8.47e-10 2.28e-10
+  0.89999999999873 -1.23456790123873 4.80e-12 2.50e-12
+  # greatest slope-error 8.47e-10 at 0.19999999999982
+
+The energy has no such column.
+
+  $ with job 2 'energy 1/r' pairmd curve job --energy --grid
+  error: the argument '--grid' cannot be used with '--energy'
+  
+  Usage: pairmd curve [OPTIONS] <JOB>
+  
+  For more information, try '--help'.
+  [2]
+  $ with job 2 'energy 1/r' pairmd curve job --grid --slope --energy
+  error: the argument '--grid' cannot be used with '--energy'
+  
+  Usage: pairmd curve [OPTIONS] <JOB>
+  
+  For more information, try '--help'.
+  [2]
 ## One pair of types
 
 `--types A B` selects the table of A and B. A is the type of the atom with the lower number.

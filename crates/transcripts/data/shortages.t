@@ -77,6 +77,9 @@ allocation belongs to a step of a run, the error prints the number of whole step
   $ requests pairmd curve job --points 1
   pairmd: Memory [4]
   all
+  $ requests pairmd curve job --points 1 --slope --grid
+  pairmd: Memory [4]
+  all
   $ requests pairmd curve job --points 1 --energy --types AR AR
   pairmd: Memory [4]
   all

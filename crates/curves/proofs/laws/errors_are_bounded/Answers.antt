@@ -27,5 +27,5 @@ pub returns-clause-inputs : goal.returns-clause-inputs
 returns-clause-inputs g c = λ j a b r. inputs_are j a b r
 
 pub returns-clause-rows : goal.returns-clause-rows
-returns-clause-rows g c = λ k h j program inputs points a b i row scoped is.
-    bounds_are_right k h (bits_of j.frac) inputs program scoped (others_of j a b) (distances_of j points i) (bounds_in row) is.bounds
+returns-clause-rows g c = λ k h j program plan inputs a b i row scoped is.
+    bounds_are_right k h (bits_of j.frac) inputs program scoped (others_of j a b) (distances_of j plan.points i) (bounds_in row) is.bounds
