@@ -120,8 +120,8 @@ fn plan_of<'a, A: Allocator>(
     })
 }
 
-/// The columns of a table: with only one of the flags for the energy and for the slope, its columns, otherwise all columns;
-/// and the column of the grid.
+/// The columns of a table: with only one flag of `--energy` and `--slope`, those of the energy or of the slope, otherwise
+/// all; with `--grid` also the grid's, except beside only the energy.
 fn columns_of(energy: bool, slope: bool, grid: bool) -> CurveColumns
     ensures { result ≡ columns_shown energy slope grid }
 {
