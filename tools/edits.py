@@ -138,6 +138,7 @@ class Edits:
             room = self.trial.seeded(crate, own if os.path.isdir(own) and not self.over_gate else None)
             if room is None:
                 self.tell(False, f"{crate.name} itself is not proved")
+                print(self.trial.errors(crate), file=sys.stderr, flush=True)
             else:
                 left = {edit: None for edit in edits_of(crate)}
                 trials = [functools.partial(self.one, crate, room, edit, left) for edit in left]
