@@ -99,7 +99,7 @@ class Trial:
     def errors(self, crate):
         """Returns the prover's errors about a crate that isn't proved."""
         said = self.rt.checked(crate, {}, self.FLAGS, None).stdout
-        return "\n".join(it for it in said.splitlines() if "error" in it or "not proved" in it)
+        return "\n".join(it for it in said.splitlines() if " error" in it or "not proved" in it)
 
     def refused(self, crate, edit, room):
         """Returns whether the prover rejected the mutant, tried over a copy of the directory's results, and the message
