@@ -125,17 +125,17 @@ COUNTS = [
 ]
 LENGTHS = {
     "README.md": 2195,
-    "docs/GUIDE.md": 5639,
+    "docs/GUIDE.md": 5643,
     "docs/ACCURACY.md": 1887,
     "docs/FORMATS.md": 4596,
     "docs/MODEL.md": 3781,
     "docs/PROOFS.md": 2765,
     "docs/ARCHITECTURE.md": 3107,
-    "docs/BOUNDS.md": 1586,
-    "docs/PERFORMANCE.md": 948,
+    "docs/BOUNDS.md": 1598,
+    "docs/PERFORMANCE.md": 964,
     "docs/VALIDATION.md": 694,
     "CONTRIBUTING.md": 3023,
-    "docs/PLAN.md": 466,
+    "docs/PLAN.md": 468,
 }
 OTHERS = 5733
 MOST_FUNCTIONS = 99
