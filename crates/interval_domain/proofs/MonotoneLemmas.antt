@@ -1,15 +1,15 @@
 -- An operation that is monotone in each operand, or below 0 and above 0, has its extremes at the ends, and at 0.
-use Rattle.std.proofs.Common.{◌≡◌, refl, sym, ◌∙◌, subst, arith, Bool, true, false, Result, Ok, Err, IfOk, IfErr, ℤ, pos, ◌≤ℤ◌, inl, inr, ◌⊎◌, ◌<ℤ◌}
+use Rattle.std.proofs.Common.{◌≡◌, refl, subst, arith, Bool, true, false, Result, Ok, Err, IfOk, IfErr, ℤ, pos, ◌≤ℤ◌, inl, inr, ◌⊎◌, ◌<ℤ◌}
 use Rattle.std.specs.Int.{int_max, int_min}
 use Rattle.std.proofs.lemmas.Int.{by_lt_z, ints}
 use Rattle.fixed.specs.declared.faults.Fault.{Fault}
 use Rattle.fixed.specs.declared.faults.Fault.TheVariants.{Overflow, ZeroDivisor, NegativeRoot}
 use Rattle.interval_domain.specs.declared.span.Span.{Span}
 use Rattle.interval_domain.specs.Ranges.{IsIn, Range, around, around_results, at_corners, has_zero, turn_of}
-use Rattle.interval_domain.specs.Spans.{IsCause, IsLeastSpan, IsMember, MayFault}
+use Rattle.interval_domain.specs.Spans.{IsCause, IsLeastSpan}
 use Rattle.interval_domain.specs.Views.{result_range, span_range}
 use Rattle.interval_domain.proofs.OutcomeLemmas.{IsNarrowing, max_keeps, min_keeps}
-use Rattle.interval_domain.proofs.RangeLemmas.{greatest_at_least, least_at_most, on_one_side, zero_in}
+use Rattle.interval_domain.proofs.RangeLemmas.{greatest_at_least, least_at_most, on_one_side}
 
 -- the operation has a result, which is in the range
 abbrev pub Computes : Result ℤ Fault → Range → Type 0

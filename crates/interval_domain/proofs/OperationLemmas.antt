@@ -1,13 +1,13 @@
 -- Each operator is monotone in each operand, and each unary operator is monotone below 0 and above 0. So the range of the
 -- results at the ends, and at 0, has all results; and the interval with the same ends is the least.
-use Rattle.std.proofs.Common.{◌≡◌, ◌≢◌, ℕ, zero, suc, ◌*◌, ◌^◌, ◌≤◌, refl, sym, subst, ◌∙◌, arith, inl, inr, Bool, true, false, if◌then◌else◌, Result, Ok, Err, IfOk, IfErr, ℤ, pos, negsuc, neg_ℤ, ◌+ℤ◌, ◌-ℤ◌, ◌*ℤ◌, ◌≤ℤ◌, unsigned_abs, ◌⊎◌, ◌&&◌, ◌<ℤ◌}
+use Rattle.std.proofs.Common.{◌≡◌, ℕ, zero, suc, ◌*◌, ◌^◌, ◌≤◌, refl, sym, subst, ◌∙◌, arith, inl, inr, Bool, true, false, if◌then◌else◌, Result, Ok, Err, IfOk, IfErr, ℤ, pos, negsuc, neg_ℤ, ◌+ℤ◌, ◌-ℤ◌, ◌*ℤ◌, ◌≤ℤ◌, unsigned_abs, ◌⊎◌, ◌&&◌, ◌<ℤ◌}
 use Rattle.std.specs.Int.{int_max, int_min}
 use Rattle.std.proofs.lemmas.Bool.{and_parts}
 use Rattle.std.proofs.lemmas.Bool.Decides.{nat_tests}
 use Rattle.std.proofs.lemmas.Int.{ints, clamps}
 use Rattle.std.proofs.lemmas.Nat.{mul-le}
 use lib.IntN.{*ℤ_comm}
-use Rattle.fixed.specs.Arithmetic.{ceiling_of, delta_of, floor_of, floor_over, is_zero, number_or_overflow, one, quotient_of, square_root_of, step_of, whole_of}
+use Rattle.fixed.specs.Arithmetic.{delta_of, floor_of, floor_over, is_zero, number_or_overflow, one, square_root_of, step_of, whole_of}
 use Rattle.fixed.specs.Operations.{flat_value, operator_value, unary_value}
 use Rattle.fixed.specs.Roots.{root}
 use Rattle.fixed.specs.declared.faults.Fault.{Fault}

@@ -1,5 +1,5 @@
 -- Members of intervals, and narrowing to a number.
-use Rattle.std.proofs.Common.{◌≡◌, refl, subst, arith, Bool, true, false, cond, if◌then◌else◌, Result, Ok, Err, ℤ, ◌≤ℤ◌, int_lt}
+use Rattle.std.proofs.Common.{◌≡◌, refl, arith, Bool, true, false, cond, if◌then◌else◌, Result, Ok, Err, ℤ, ◌≤ℤ◌, int_lt}
 use Rattle.std.specs.Int.{int_max, int_min}
 use Rattle.std.proofs.lemmas.Int.{ints}
 use Rattle.fixed.specs.Arithmetic.{in_range, number_or_overflow}

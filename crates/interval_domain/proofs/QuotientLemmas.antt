@@ -1,5 +1,5 @@
 -- Rounded quotients rise or fall in the dividend, and in a divisor on one side of 0.
-use Rattle.std.proofs.Common.{◌≡◌, ◌≢◌, sym, Bool, false, if◌then◌else◌, ℕ, zero, suc, ◌^◌, ◌≤◌, refl, inl, inr, arith, subst, Result, Ok, Err, ℤ, pos, negsuc, neg_ℤ, ◌*ℤ◌, ◌≤ℤ◌}
+use Rattle.std.proofs.Common.{◌≡◌, ◌≢◌, sym, Bool, false, if◌then◌else◌, ℕ, zero, suc, ◌^◌, ◌≤◌, refl, inl, inr, arith, subst, Result, Err, ℤ, pos, negsuc, neg_ℤ, ◌*ℤ◌, ◌≤ℤ◌}
 use Rattle.std.proofs.lemmas.Bool.Decides.{nat_tests}
 use Rattle.std.proofs.lemmas.Int.{ints}
 use Rattle.fixed.specs.Arithmetic.{floor_of, floor_over, is_zero, number_or_overflow, one, quotient_of}
@@ -7,7 +7,7 @@ use Rattle.fixed.specs.declared.faults.Fault.{Fault}
 use Rattle.fixed.specs.declared.faults.Fault.TheVariants.{ZeroDivisor}
 use Rattle.interval_domain.specs.Ranges.{IsIn, Range, has_zero}
 use Rattle.interval_domain.proofs.OutcomeLemmas.{number_narrows}
-use Rattle.interval_domain.proofs.MonotoneLemmas.{Computes, IsBetween, MovesInEach, Passes, passes}
+use Rattle.interval_domain.proofs.MonotoneLemmas.{Computes, IsBetween, MovesInEach, passes}
 use Rattle.interval_domain.proofs.FloorLemmas.{div_falls, floor_rises, times_rises}
 use Rattle.interval_domain.proofs.RangeLemmas.{on_one_side, zero_out}
 

@@ -1,5 +1,5 @@
 -- Ends of ranges: their order, and their magnitudes.
-use Rattle.std.proofs.Common.{◌≡◌, ◌≢◌, ℕ, zero, suc, ◌+◌, ◌*◌, ◌≤◌, ◌<◌, ℤ, pos, negsuc, neg_ℤ, ◌+ℤ◌, ◌-ℤ◌, ◌*ℤ◌, ◌≤ℤ◌, ◌<ℤ◌, Bool, true, false, arith, refl, inl, inr, ⊎_elim, unsigned_abs, ◌⊎◌, int_le}
+use Rattle.std.proofs.Common.{◌≡◌, ◌≢◌, ℕ, zero, suc, ◌+◌, ◌*◌, ◌≤◌, ◌<◌, ℤ, pos, negsuc, neg_ℤ, ◌+ℤ◌, ◌-ℤ◌, ◌*ℤ◌, ◌≤ℤ◌, ◌<ℤ◌, Bool, true, false, arith, refl, ◌∙◌, inl, inr, ⊎_elim, unsigned_abs, ◌⊎◌, int_le}
 use Rattle.std.proofs.lemmas.Bool.{and_cases, and_parts}
 use Rattle.std.specs.Int.{int_max, int_min}
 use Rattle.std.proofs.lemmas.Int.{ints, clamps, by_lt_z, unsigned_abs-mul}
@@ -11,7 +11,7 @@ use Rattle.fixed.proofs.FloorLemmas.{floor_over_is}
 use Rattle.fixed.proofs.IntegerLaws.{neg_times, times_next}
 use Rattle.interval_domain.proofs.FloorLemmas.{floor_rises, times_rises}
 use Rattle.interval_domain.proofs.OutcomeLemmas.{max_keeps, min_keeps}
-use Rattle.interval_domain.specs.Ranges.{IsIn, IsWithin, Range, around, has_zero, less, over, plus, quotients, range, scaled, times, up_over}
+use Rattle.interval_domain.specs.Ranges.{IsIn, IsWithin, Range, around, between, has_zero, hull, less, over, plus, quotients, range, scaled, times, up_over}
 
 -- ---- equations
 
@@ -23,6 +23,10 @@ range_same a b c d e f = rw (e, f) refl
 pub four_same : {A : Type 0} (f : ℤ → ℤ → ℤ → ℤ → A) (p q r s p' q' r' s' : ℤ)
     → p ≡ p' → q ≡ q' → r ≡ r' → s ≡ s' → f p q r s ≡ f p' q' r' s'
 four_same f p q r s p' q' r' s' e g h i = rw (e, g, h, i) refl
+
+-- equal ranges have equal hulls
+pub hull_same : (a b x y r : Range) → a ≡ x → b ≡ y → r ≡ hull a b → r ≡ hull x y
+hull_same a b x y r e f h = h ∙ rw (e, f) refl
 
 -- ---- order
 
@@ -240,15 +244,20 @@ quotients_small n x y p =
     in
     record { low = a.low; high = b.high }
 
+-- quotients, from the hulls of the floors and of the ceilings
+pub quotients_are : (x y a b p q lows highs : Range)
+    → a ≡ between (floor_of x.low y.low) (floor_of x.low y.high) → b ≡ between (floor_of x.high y.low) (floor_of x.high y.high)
+    → p ≡ between (up_over x.low y.low) (up_over x.low y.high) → q ≡ between (up_over x.high y.low) (up_over x.high y.high)
+    → lows ≡ hull a b → highs ≡ hull p q → range lows.low highs.high ≡ quotients x y
+quotients_are x y a b p q lows highs ea eb ep eq l h = rw (l, h, ea, eb, ep, eq) refl
+
 -- the least of the floors is at most the greatest of the ceilings
-pub quotients_ordered : (a b c d : ℤ) → c ≢ pos 0
-    → least_of (floor_of a c) (floor_of a d) (floor_of b c) (floor_of b d)
-    ≤ℤ greatest_of (up_over a c) (up_over a d) (up_over b c) (up_over b d)
-quotients_ordered a b c d h =
-    let l = (least_at_most (floor_of a c) (floor_of a d) (floor_of b c) (floor_of b d)).0 in
-    let u = (greatest_at_least (up_over a c) (up_over a d) (up_over b c) (up_over b d)).0 in
-    let m = floor_at_most a c h in
-    omega (arith, ints)
+pub quotients_ordered : (x y r : Range) → y.low ≤ℤ y.high → has_zero y ≡ false → r ≡ quotients x y → r.low ≤ℤ r.high
+quotients_ordered x y r o none e =
+    let l = (least_at_most (floor_of x.low y.low) (floor_of x.low y.high) (floor_of x.high y.low) (floor_of x.high y.high)).0 in
+    let u = (greatest_at_least (up_over x.low y.low) (up_over x.low y.high) (up_over x.high y.low) (up_over x.high y.high)).0 in
+    let m = floor_at_most x.low y.low (low_nonzero y.low y.high o none) in
+    rw e (omega (arith, ints))
 
 -- equal ranges are within the same bounds
 pub within_same : (n : ℕ) (x y : Range) → x ≡ y → IsWithin n y → IsWithin n x

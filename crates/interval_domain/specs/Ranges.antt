@@ -34,6 +34,10 @@ less x y = range (x.low -ℤ y.high) (x.high -ℤ y.low)
 abbrev pub hull : Range → Range → Range
 hull x y = range (int_min x.low y.low) (int_max x.high y.high)
 
+-- the least range that contains two integers
+abbrev pub between : (p q : ℤ) → Range
+between p q = range (int_min p q) (int_max p q)
+
 -- the least range that contains four integers
 abbrev pub around : (p q r s : ℤ) → Range
 around p q r s = range (int_min (int_min p q) (int_min r s)) (int_max (int_max p q) (int_max r s))

@@ -2,7 +2,7 @@
 ghost use Rattle.std.specs.Prelude.{◌≡◌, ◌≢◌, ◌^◌, ◌-◌, ◌≤◌, ◌<ℤ◌, ◌≤ℤ◌, ◌+ℤ◌, ◌-ℤ◌, ◌*ℤ◌, pos, neg_ℤ, false, unsigned_abs};
 ghost use Rattle.std.specs.Int.{int_max, int_min};
 ghost use Rattle.fixed.specs.Arithmetic.{floor_of};
-ghost use Rattle.interval_domain.specs.Ranges.{IsWithin, around, has_zero, hull, less, negated, over, plus, quotients, scaled, times, up_over};
+ghost use Rattle.interval_domain.specs.Ranges.{IsWithin, around, between, has_zero, hull, less, negated, over, plus, quotients, scaled, times, up_over};
 ghost use Rattle.interval_domain.specs.Views.{range_of, span_range};
 
 use crate::ends::Ends;
@@ -120,28 +120,21 @@ pub fn ends_hull(x: Ends, y: Ends) -> Ends
     }
 }
 
-// The least of four integers.
-fn least(p: i128, q: i128, r: i128, s: i128) -> i128
-    ensures { result ≡ int_min (int_min p q) (int_min r s) }
+// The least range that contains two integers.
+fn ends_between(p: i128, q: i128) -> Ends
+    ensures { range_of result ≡ between p q }
 {
-    lesser(lesser(p, q), lesser(r, s))
-}
-
-// The greatest of four integers.
-fn greatest(p: i128, q: i128, r: i128, s: i128) -> i128
-    ensures { result ≡ int_max (int_max p q) (int_max r s) }
-{
-    greater(greater(p, q), greater(r, s))
+    Ends {
+        low: lesser(p, q),
+        high: greater(p, q),
+    }
 }
 
 /// The least range that contains four integers.
 pub fn ends_around(p: i128, q: i128, r: i128, s: i128) -> Ends
     ensures { range_of result ≡ around p q r s }
 {
-    Ends {
-        low: least(p, q, r, s),
-        high: greatest(p, q, r, s),
-    }
+    ends_hull(ends_between(p, q), ends_between(r, s))
 }
 
 // `a b`.
@@ -154,6 +147,17 @@ fn product(a: i128, b: i128) -> i128
     a * b
 }
 
+// All `a y`.
+//
+// The products with the ends must fit.
+fn multiples(a: i128, y: Ends) -> Ends
+    requires low { unsigned_abs (a *ℤ y.low) ≤ 2 ^ 127 - 1 }
+    requires high { unsigned_abs (a *ℤ y.high) ≤ 2 ^ 127 - 1 }
+    ensures { range_of result ≡ between (a *ℤ y.low) (a *ℤ y.high) }
+{
+    ends_between(product(a, y.low), product(a, y.high))
+}
+
 /// All `x y`.
 ///
 /// The result must fit.
@@ -161,12 +165,7 @@ pub fn times(x: Ends, y: Ends) -> Ends
     requires { IsWithin (2 ^ 127 - 1) (times (range_of x) (range_of y)) }
     ensures { range_of result ≡ times (range_of x) (range_of y) }
 {
-    ends_around(
-        product(x.low, y.low),
-        product(x.low, y.high),
-        product(x.high, y.low),
-        product(x.high, y.high),
-    )
+    ends_hull(multiples(x.low, y), multiples(x.high, y))
 }
 
 /// All `x c`, for `c` from 0.
@@ -220,6 +219,26 @@ pub fn over(x: Ends, d: i128) -> Ends
     }
 }
 
+// The floors of `a / y` at the ends of `y`, which must not contain 0.
+fn floors(a: i128, y: Ends) -> Ends
+    requires nonzero { has_zero (range_of y) ≡ false }
+    requires a_fits { unsigned_abs a ≤ 2 ^ 127 - 1 }
+    requires y_fits { IsWithin (2 ^ 127 - 1) (range_of y) }
+    ensures { range_of result ≡ between (floor_of a y.low) (floor_of a y.high) }
+{
+    ends_between(floor(a, y.low), floor(a, y.high))
+}
+
+// The ceilings of `a / y` at the ends of `y`, which must not contain 0.
+fn ceilings(a: i128, y: Ends) -> Ends
+    requires nonzero { has_zero (range_of y) ≡ false }
+    requires a_fits { unsigned_abs a ≤ 2 ^ 127 - 1 }
+    requires y_fits { IsWithin (2 ^ 127 - 1) (range_of y) }
+    ensures { range_of result ≡ between (up_over a y.low) (up_over a y.high) }
+{
+    ends_between(up_over(a, y.low), up_over(a, y.high))
+}
+
 /// All `x / y`: the least of the floors, the greatest of the ceilings.
 ///
 /// `y` must not contain 0.
@@ -229,18 +248,8 @@ pub fn quotients(x: Ends, y: Ends) -> Ends
     requires y_fits { IsWithin (2 ^ 127 - 1) (range_of y) }
     ensures { range_of result ≡ quotients (range_of x) (range_of y) }
 {
-    let lows = ends_around(
-        floor(x.low, y.low),
-        floor(x.low, y.high),
-        floor(x.high, y.low),
-        floor(x.high, y.high),
-    );
-    let highs = ends_around(
-        up_over(x.low, y.low),
-        up_over(x.low, y.high),
-        up_over(x.high, y.low),
-        up_over(x.high, y.high),
-    );
+    let lows = ends_hull(floors(x.low, y), floors(x.high, y));
+    let highs = ends_hull(ceilings(x.low, y), ceilings(x.high, y));
     Ends {
         low: lows.low,
         high: highs.high,
