@@ -13,7 +13,7 @@ use Rattle.job.specs.declared.faults.Key.TheVariants as keys
 use Rattle.job.specs.Forms.{is_type_name}
 use Rattle.job.specs.JobLines.{LineValue, says_nothing, says_energy, says_core, says_cutoff, says_time_step, says_slices, says_bits, says_parameter, says_global, says_type, IsEnergyLine, HasOneWord, LineSays}
 use Rattle.job.specs.Numbers.{Reading, both, only, alone, numeral_of, signed_of, values_of, cutoff_of, whole_of, frac_of, mass_of}
-use Rattle.job.specs.Statements.{Statement, skipped, energy_is, core_is, cutoff_is, time_step_is, slices_is, parameter_is, global_is, type_is, bits_is, well_formed, energy_statement, parameter_statement, global_statement, type_statement, key_among, key_of, key_statement, words_statement, entry_of, value_of, value_said}
+use Rattle.job.specs.Statements.{Statement, skipped, energy_is, core_is, cutoff_is, time_step_is, slices_is, parameter_is, global_is, type_is, bits_is, well_formed, energy_statement, parameter_statement, global_statement, type_statement, key_among, key_of, words_of_keys, key_statement, words_statement, entry_of, value_of, value_said}
 use Rattle.job.proofs.NumberTexts.{number_ok, number_again, signed_ok, signed_again, both_ok, values_ok, values_again, whole_ok, whole_again, cutoff_ok, cutoff_again, frac_ok, frac_again, mass_ok, mass_again}
 
 -- ---- statements of values
@@ -34,17 +34,10 @@ stated (says_type t) = type_is t.name (Some (t.mass, t.values))
 -- a value is the value of its statement
 pub said_again : (v : LineValue) → value_said (stated v) ≡ Some v
 said_again says_nothing = refl
-said_again (says_energy text) = refl
-said_again (says_core v) = refl
-said_again (says_cutoff v) = refl
-said_again (says_time_step n) = refl
-said_again (says_slices n) = refl
-said_again (says_bits frac) = refl
-said_again (says_parameter name) = refl
-said_again (says_global g) = refl
-said_again (says_type t) = refl
+said_again _ = refl
 
-same_some : {X : Type 0} (x y : X) → Some x ≡ Some y → x ≡ y
+-- equal values under `Some` are equal
+pub same_some : {X : Type 0} (x y : X) → Some x ≡ Some y → x ≡ y
 same_some x y e = cc
 
 -- ---- the words of a line
@@ -74,7 +67,7 @@ heads : (x y : List ℕ) (xs ys : List (List ℕ)) → x ∷ xs ≡ y ∷ ys →
 heads x y xs ys e = cc
 
 -- a line isn't a comment if its first word doesn't begin with `#`
-no_comment : (line word : List ℕ) (ws : List (List ℕ)) → words line ≡ word ∷ ws → (slice_index word 0 ≡ 35 → ⊥) → (slice_index line 0 == 35) ≡ false
+pub no_comment : (line word : List ℕ) (ws : List (List ℕ)) → words line ≡ word ∷ ws → (slice_index word 0 ≡ 35 → ⊥) → (slice_index line 0 == 35) ≡ false
 no_comment [] word ws e other = refl
 no_comment (b ∷ bs) word ws e other = at (b == 35) (eqb-true b 35)
   where
@@ -114,38 +107,21 @@ among_found (x ∷ xs) word key h e = at (bytes_eq word x.0) (bytes_eq-Decides w
     at true is rest f = is refl ∙ h.0 ∙ ap key_word (same_some x.1 key f)
     at false is rest f = rest f
 
-abbrev all_keys : List (List ℕ × Key)
-all_keys =
-    (codes "energy", keys.Energy) ∷ (codes "core", keys.Core) ∷ (codes "cutoff", keys.Cutoff) ∷ (codes "dt", keys.TimeStep)
-    ∷ (codes "slices", keys.Slices) ∷ (codes "parameter", keys.Parameter) ∷ (codes "global", keys.Global)
-    ∷ (codes "type", keys.Types) ∷ (codes "bits", keys.Bits) ∷ []
-
-key_found : (word : List ℕ) (key : Key) → key_of word ≡ Some key → word ≡ key_word key
+-- the word of a key that is found
+pub key_found : (word : List ℕ) (key : Key) → key_of word ≡ Some key → word ≡ key_word key
 unfolding key_of
-key_found word key e = among_found all_keys word key (refl, (refl, (refl, (refl, (refl, (refl, (refl, (refl, (refl, tt))))))))) e
+key_found word key e = among_found words_of_keys word key (refl, (refl, (refl, (refl, (refl, (refl, (refl, (refl, (refl, tt))))))))) e
 
-key_again : (key : Key) → key_of (key_word key) ≡ Some key
+-- each key is found by its word
+pub key_again : (key : Key) → key_of (key_word key) ≡ Some key
 unfolding key_of
 key_again keys.Energy = refl
-key_again keys.Core = refl
-key_again keys.Cutoff = refl
-key_again keys.TimeStep = refl
-key_again keys.Slices = refl
-key_again keys.Parameter = refl
-key_again keys.Global = refl
-key_again keys.Types = refl
-key_again keys.Bits = refl
+key_again _ = refl
 
-key_no_comment : (key : Key) → slice_index (key_word key) 0 ≡ 35 → ⊥
+-- no key begins with `#`
+pub key_no_comment : (key : Key) → slice_index (key_word key) 0 ≡ 35 → ⊥
 key_no_comment keys.Energy e = absurd (omega (arith, e))
-key_no_comment keys.Core e = absurd (omega (arith, e))
-key_no_comment keys.Cutoff e = absurd (omega (arith, e))
-key_no_comment keys.TimeStep e = absurd (omega (arith, e))
-key_no_comment keys.Slices e = absurd (omega (arith, e))
-key_no_comment keys.Parameter e = absurd (omega (arith, e))
-key_no_comment keys.Global e = absurd (omega (arith, e))
-key_no_comment keys.Types e = absurd (omega (arith, e))
-key_no_comment keys.Bits e = absurd (omega (arith, e))
+key_no_comment _ e = absurd (omega (arith, e))
 
 -- ---- from statements to line values
 
@@ -156,7 +132,8 @@ number_said make say h (Ok x) v e = (x, refl, same_some (say x) v (sym (h (Some 
 number_said make say h (Err NumberRange) v e = let none = h None in absurd cc
 number_said make say h (Err BadNumber) v e = absurd cc
 
-alone_ok : {X : Type 0} (read : List ℕ → Reading X) (ws : List (List ℕ)) (x : X) → alone read ws ≡ Ok x → (word : List ℕ) × (ws ≡ word ∷ []) × (read word ≡ Ok x)
+-- a value that is read from the only word
+pub alone_ok : {X : Type 0} (read : List ℕ → Reading X) (ws : List (List ℕ)) (x : X) → alone read ws ≡ Ok x → (word : List ℕ) × (ws ≡ word ∷ []) × (read word ≡ Ok x)
 alone_ok read [] x e = absurd cc
 alone_ok read (w ∷ []) x e = (w, refl, e)
 alone_ok read (w ∷ v ∷ ws) x e = absurd cc
@@ -171,6 +148,12 @@ module _ (frac : Frac) (line : List ℕ) (v : LineValue) where
       let a = alone_ok read (words (after_word line)) n.0 n.1 in
       subst (λ (u : LineValue). LineSays frac line u) n.2 (line_is n.0 (a.0, all ∙ ap (λ (ws : List (List ℕ)). key_word key ∷ ws) a.1, is a.0 n.0 a.2))
 
+  -- a line with a word of the right form
+  if_named : (named : Bool) (o : Option Statement) → (named ≡ true → option_and_then value_said o ≡ Some v → LineSays frac line v)
+      → option_and_then value_said (if named then o else None) ≡ Some v → LineSays frac line v
+  if_named true o is e = is refl e
+  if_named false o is e = absurd cc
+
   energy_ok : words line ≡ codes "energy" ∷ words (after_word line) → option_and_then value_said (energy_statement (without_blanks (after_word line))) ≡ Some v → LineSays frac line v
   energy_ok all e = at (without_blanks (after_word line)) refl e
     where
@@ -183,48 +166,40 @@ module _ (frac : Frac) (line : List ℕ) (v : LineValue) where
   parameter_ok : words line ≡ codes "parameter" ∷ words (after_word line) → option_and_then value_said (parameter_statement (only (words (after_word line)))) ≡ Some v → LineSays frac line v
   parameter_ok all e = at (words (after_word line)) all e
     where
-      named : (name : List ℕ) → words line ≡ codes "parameter" ∷ name ∷ [] → (b : Bool) → is_identifier name ≡ b → option_and_then value_said (if b then Some (parameter_is name) else None) ≡ Some v → LineSays frac line v
-      named name is false i h = absurd cc
-      named name is true i h = subst (λ (u : LineValue). LineSays frac line u) (same_some (says_parameter name) v h) (name, is, (refl, i))
-
       at : (ws : List (List ℕ)) → words line ≡ codes "parameter" ∷ ws → option_and_then value_said (parameter_statement (only ws)) ≡ Some v → LineSays frac line v
       at [] is h = absurd cc
-      at (name ∷ []) is h = named name is (is_identifier name) refl h
+      at (name ∷ []) is h =
+          if_named (is_identifier name) (Some (parameter_is name))
+          (λ i k. subst (λ (u : LineValue). LineSays frac line u) (same_some (says_parameter name) v k) (name, is, (refl, i))) h
       at (name ∷ w ∷ ws) is h = absurd cc
 
   global_ok : words line ≡ codes "global" ∷ words (after_word line) → option_and_then value_said (global_statement frac (words (after_word line))) ≡ Some v → LineSays frac line v
   global_ok all e = at (words (after_word line)) all e
     where
-      named : (name word : List ℕ) → words line ≡ codes "global" ∷ name ∷ word ∷ [] → (b : Bool) → is_identifier name ≡ b
-          → option_and_then value_said (if b then option_map (global_is name) (well_formed (signed_of frac word)) else None) ≡ Some v → LineSays frac line v
-      named name word is false i h = absurd cc
-      named name word is true i h =
-          let n = number_said (global_is name) (λ z. says_global (record { name = name; value = z })) (λ o. refl) (signed_of frac word) v h in
-          subst (λ (u : LineValue). LineSays frac line u) n.2 (record { word = word; words_are = is; named = i; number = signed_ok frac word n.0 n.1 })
-
       at : (ws : List (List ℕ)) → words line ≡ codes "global" ∷ ws → option_and_then value_said (global_statement frac ws) ≡ Some v → LineSays frac line v
       at [] is h = absurd cc
       at (name ∷ []) is h = absurd cc
-      at (name ∷ word ∷ []) is h = named name word is (is_identifier name) refl h
+      at (name ∷ word ∷ []) is h =
+          if_named (is_identifier name) (option_map (global_is name) (well_formed (signed_of frac word)))
+          (λ i k.
+          let n = number_said (global_is name) (λ z. says_global (record { name = name; value = z })) (λ o. refl) (signed_of frac word) v k in
+          subst (λ (u : LineValue). LineSays frac line u) n.2 (record { word = word; words_are = is; named = i; number = signed_ok frac word n.0 n.1 })) h
       at (name ∷ word ∷ w ∷ ws) is h = absurd cc
 
   type_ok : words line ≡ codes "type" ∷ words (after_word line) → option_and_then value_said (type_statement frac (words (after_word line))) ≡ Some v → LineSays frac line v
   type_ok all e = at (words (after_word line)) all e
     where
-      named : (name mass : List ℕ) (numerals : List (List ℕ)) → words line ≡ codes "type" ∷ name ∷ mass ∷ numerals → (b : Bool) → is_type_name name ≡ b
-          → option_and_then value_said (if b then option_map (type_is name) (well_formed (both (mass_of mass) (values_of frac numerals))) else None) ≡ Some v → LineSays frac line v
-      named name mass numerals is false i h = absurd cc
-      named name mass numerals is true i h =
-          let n = number_said (type_is name) (λ z. says_type (record { name = name; mass = z.0; values = z.1 })) (λ o. refl) (both (mass_of mass) (values_of frac numerals)) v h in
-          let b = both_ok (mass_of mass) (values_of frac numerals) n.0 n.1 in
-          let m = mass_ok mass n.0.0 b.0 in
-          subst (λ (u : LineValue). LineSays frac line u) n.2
-          (record { mass = mass; numerals = numerals; words_are = is; named = i; mass_is = m.0; some_mass = m.1; most_mass = m.2; numbers = values_ok frac numerals n.0.1 b.1 })
-
       at : (ws : List (List ℕ)) → words line ≡ codes "type" ∷ ws → option_and_then value_said (type_statement frac ws) ≡ Some v → LineSays frac line v
       at [] is h = absurd cc
       at (name ∷ []) is h = absurd cc
-      at (name ∷ mass ∷ numerals) is h = named name mass numerals is (is_type_name name) refl h
+      at (name ∷ mass ∷ numerals) is h =
+          if_named (is_type_name name) (option_map (type_is name) (well_formed (both (mass_of mass) (values_of frac numerals))))
+          (λ i k.
+          let n = number_said (type_is name) (λ z. says_type (record { name = name; mass = z.0; values = z.1 })) (λ o. refl) (both (mass_of mass) (values_of frac numerals)) v k in
+          let b = both_ok (mass_of mass) (values_of frac numerals) n.0 n.1 in
+          let m = mass_ok mass n.0.0 b.0 in
+          subst (λ (u : LineValue). LineSays frac line u) n.2
+          (record { mass = mass; numerals = numerals; words_are = is; named = i; mass_is = m.0; some_mass = m.1; most_mass = m.2; numbers = values_ok frac numerals n.0.1 b.1 })) h
 
   key_ok : (key : Key) → words line ≡ key_word key ∷ words (after_word line) → option_and_then value_said (key_statement frac (Some key) (after_word line)) ≡ Some v → LineSays frac line v
   key_ok keys.Energy all e = energy_ok all e

@@ -12,10 +12,10 @@ use Rattle.job.specs.Faults.{AreFaultless, Refusal, Said, repeated_name, repeate
 use Rattle.job.specs.JobFaults.{HasBadLine}
 use Rattle.job.specs.declared.faults.Key.{Key}
 use Rattle.job.specs.declared.faults.Key.TheVariants as keys
-use Rattle.job.specs.JobLines.{LineValue, says_nothing, says_energy, says_core, says_cutoff, says_time_step, says_slices, says_bits, says_parameter, says_global, says_type, said_energy, said_core, said_cutoff, said_time_step, said_slices, said_bits, said_parameter, said_global}
-use Rattle.job.specs.Statements.{Statement, skipped, energy_is, core_is, cutoff_is, time_step_is, slices_is, parameter_is, global_is, type_is, bits_is, entry_of, value_of, value_said}
+use Rattle.job.specs.JobLines.{LineValue, said_energy, said_core, said_cutoff, said_time_step, said_slices, said_bits, said_parameter, said_global}
+use Rattle.job.specs.Statements.{Statement, core_is, cutoff_is, time_step_is, slices_is, global_is, type_is, bits_is, entry_of, value_of, value_said}
 use Rattle.job.specs.Values.{Counts}
-use Rattle.job.proofs.EntryLemmas.{said_again, stated}
+use Rattle.job.proofs.EntryLemmas.{entry_again, entry_ok, same_some, stated}
 
 -- ---- one more line
 
@@ -101,25 +101,16 @@ listed_some : (known : Bool) (repetition : Refusal) (key : Key) → listed known
 listed_some true repetition key e = absurd cc
 listed_some false repetition key e = absurd cc
 
--- a statement without a fault is the statement of a value
-has_value : (most : Counts) (s : Said) (it : Statement) → statement_fault most s it ≡ None → (v : LineValue) × (it ≡ stated v)
-has_value most s skipped e = (says_nothing, refl)
-has_value most s (energy_is x) e = (says_energy x, refl)
-has_value most s (core_is (Some x)) e = (says_core x, refl)
-has_value most s (core_is None) e = absurd (once_some keys.Core s.core e)
-has_value most s (cutoff_is (Some x)) e = (says_cutoff x, refl)
-has_value most s (cutoff_is None) e = absurd (once_some keys.Cutoff s.cutoff e)
-has_value most s (time_step_is (Some x)) e = (says_time_step x, refl)
-has_value most s (time_step_is None) e = absurd (once_some keys.TimeStep s.time_step e)
-has_value most s (slices_is (Some x)) e = (says_slices x, refl)
-has_value most s (slices_is None) e = absurd (once_some keys.Slices s.slices e)
-has_value most s (bits_is (Some x)) e = (says_bits x, refl)
-has_value most s (bits_is None) e = absurd (once_some keys.Bits s.bits e)
-has_value most s (parameter_is x) e = (says_parameter x, refl)
-has_value most s (global_is name (Some x)) e = (says_global (record { name = name; value = x }), refl)
-has_value most s (global_is name None) e = absurd (listed_some (knows (map (λ g. g.name) s.globals) name) (repeated_name name) keys.Global e)
-has_value most s (type_is name (Some x)) e = (says_type (record { name = name; mass = x.0; values = x.1 }), refl)
-has_value most s (type_is name None) e = absurd (listed_some (knows (map (λ t. t.value.name) s.types) name) (repeated_type name) keys.Types e)
+-- a statement without a value has a fault
+no_value_faults : (most : Counts) (s : Said) (it : Statement) → value_said it ≡ None → statement_fault most s it ≡ None → ⊥
+no_value_faults most s (core_is None) e f = once_some keys.Core s.core f
+no_value_faults most s (cutoff_is None) e f = once_some keys.Cutoff s.cutoff f
+no_value_faults most s (time_step_is None) e f = once_some keys.TimeStep s.time_step f
+no_value_faults most s (slices_is None) e f = once_some keys.Slices s.slices f
+no_value_faults most s (bits_is None) e f = once_some keys.Bits s.bits f
+no_value_faults most s (global_is name None) e f = listed_some (knows (map (λ g. g.name) s.globals) name) (repeated_name name) keys.Global f
+no_value_faults most s (type_is name None) e f = listed_some (knows (map (λ t. t.value.name) s.types) name) (repeated_type name) keys.Types f
+no_value_faults most s _ e f = absurd cc
 
 -- a line without a fault has a value, whose statement has no fault
 pub good_line : (most : Counts) (frac : Frac) (above : List (List ℕ)) (line : List ℕ) → line_fault most frac above line ≡ None
@@ -127,12 +118,18 @@ pub good_line : (most : Counts) (frac : Frac) (above : List (List ℕ)) (line : 
 unfolding line_fault
 good_line most frac above line e = at (entry_of frac line) refl e
   where
+    with_value : (it : Statement) → entry_of frac line ≡ Some it → statement_fault most (summary frac above) it ≡ None → (v : Option LineValue) → value_said it ≡ v
+        → (v : LineValue) × (value_of frac line ≡ Some v) × (statement_fault most (summary frac above) (stated v) ≡ None)
+    with_value it is h None e = absurd (no_value_faults most (summary frac above) it e h)
+    with_value it is h (Some v) e =
+        let value : value_of frac line ≡ Some v = ap (λ (o : Option Statement). option_and_then value_said o) is ∙ e in
+        let same = same_some it (stated v) (sym is ∙ entry_again frac line v (entry_ok frac line v value)) in
+        (v, value, subst (λ (i : Statement). statement_fault most (summary frac above) i ≡ None) same h)
+
     at : (o : Option Statement) → entry_of frac line ≡ o → entry_fault most (length above + 2) (summary frac above) o ≡ None
         → (v : LineValue) × (value_of frac line ≡ Some v) × (statement_fault most (summary frac above) (stated v) ≡ None)
     at None is h = absurd cc
-    at (Some it) is h =
-        let v = has_value most (summary frac above) it h in
-        (v.0, ap (λ (o : Option Statement). option_and_then value_said o) is ∙ ap value_said v.1 ∙ said_again v.0, subst (λ (i : Statement). statement_fault most (summary frac above) i ≡ None) v.1 h)
+    at (Some it) is h = with_value it is h (value_said it) refl
 
 -- ---- reading line by line
 

@@ -89,9 +89,9 @@ no_lack s job f t (inr a) =
     let all = rw (← t.types, ← t.parameters, a.1.parts) at t.whole in
     a.1.differs (count_told (length s.parameters) a.1.before a.1.after a.1.other all)
 
--- the job of a draft, if each required key has a value
-abbrev job_of : Said → Option (List ℕ) → Option ℤ → Option ℤ → Option ℕ → Option JobValue
-job_of s (Some energy) (Some core) (Some cutoff) (Some time_step) = Some (record {
+-- the job of a draft with these values of the required keys
+abbrev pub job_with : Said → List ℕ → (core cutoff : ℤ) → ℕ → JobValue
+job_with s energy core cutoff time_step = record {
   frac = s.frac;
   energy = energy;
   core = core;
@@ -101,7 +101,11 @@ job_of s (Some energy) (Some core) (Some cutoff) (Some time_step) = Some (record
   parameters = s.parameters;
   globals = s.globals;
   types = map (λ t. t.value) s.types;
-})
+}
+
+-- the job of a draft, if each required key has a value
+abbrev job_of : Said → Option (List ℕ) → Option ℤ → Option ℤ → Option ℕ → Option JobValue
+job_of s (Some energy) (Some core) (Some cutoff) (Some time_step) = Some (job_with s energy core cutoff time_step)
 job_of s _ _ _ _ = None
 
 job_told : (s : Said) (job : JobValue) → GivesJob s job → job_of s s.energy s.core s.cutoff s.time_step ≡ Some job

@@ -1,6 +1,5 @@
 -- A text has a result: the fault of its first line, the first faulty line below it, a part that all lines lack, or a job.
-use Rattle.std.proofs.Common.{◌≡◌, ◌⊎◌, ℕ, ℤ, Bool, true, false, int_lt, List, [], ◌∷◌, ◌++◌, length, map, Option, Some, None, Result, Ok, Err, All, bytes_eq, inl, inr, refl, sym, ap, ◌∙◌, append_assoc, append-nil}
-use Rattle.std.specs.Option.{unwrap_or}
+use Rattle.std.proofs.Common.{◌≡◌, ◌⊎◌, ℕ, ℤ, Bool, true, false, int_lt, List, [], ◌∷◌, ◌++◌, length, Option, Some, None, Result, Ok, Err, All, bytes_eq, inl, inr, refl, sym, ap, ◌∙◌, append_assoc, append-nil}
 use Rattle.std.proofs.lemmas.Bool.{cases_eq}
 use Rattle.std.proofs.lemmas.List.Elements.{All-cons, All-map, All-nil}
 use Rattle.std.proofs.lemmas.Slice.Eq.{bytes_eq-Decides}
@@ -14,6 +13,7 @@ use Rattle.job.specs.JobFaults.{HasOtherCount, JobReadsAlways, JobReadsAs, Lacks
 use Rattle.job.specs.JobLines.{header}
 use Rattle.job.specs.Values.{Counts, JobValue, TypeValue}
 use Rattle.job.specs.Words.{lines_of}
+use Rattle.job.proofs.OneResult.{job_with}
 use Rattle.job.proofs.SayLemmas.{text_of_read}
 
 -- ---- lines
@@ -85,17 +85,7 @@ module _ (s : Said) (energy : List ℕ) (core cutoff : ℤ) (time_step : ℕ) (e
       → (r : Result JobValue Refusal) × DraftGives s r
   whole_draft less (inr (f, h)) = (Err f, inr (rw (e, c, o, t, less) refl, h))
   whole_draft less (inl all) = (
-    Ok (record {
-      frac = s.frac;
-      energy = energy;
-      core = core;
-      cutoff = cutoff;
-      time_step = time_step;
-      slices = unwrap_or s.slices 64;
-      parameters = s.parameters;
-      globals = s.globals;
-      types = map (λ u. u.value) s.types;
-    }),
+    Ok (job_with s energy core cutoff time_step),
     record {
       frac = refl;
       energy = e;

@@ -72,13 +72,16 @@ abbrev pub key_among : List (List ℕ × Key) → List ℕ → Option Key
 key_among [] word = None
 key_among (e ∷ es) word = if bytes_eq word e.0 then Some e.1 else key_among es word
 
--- the key with this word
-unfoldable pub key_of : List ℕ → Option Key
-key_of word = key_among (
+-- the keys and their words
+abbrev pub words_of_keys : List (List ℕ × Key)
+words_of_keys =
     (codes "energy", keys.Energy) ∷ (codes "core", keys.Core) ∷ (codes "cutoff", keys.Cutoff) ∷ (codes "dt", keys.TimeStep)
     ∷ (codes "slices", keys.Slices) ∷ (codes "parameter", keys.Parameter) ∷ (codes "global", keys.Global)
     ∷ (codes "type", keys.Types) ∷ (codes "bits", keys.Bits) ∷ []
-    ) word
+
+-- the key with this word
+unfoldable pub key_of : List ℕ → Option Key
+key_of word = key_among words_of_keys word
 
 -- the statement of a line with this key and this text after it; numerals are read with these fraction bits
 abbrev pub key_statement : Frac → Option Key → List ℕ → Option Statement
