@@ -1,13 +1,11 @@
 //! Numbers of the table as text.
-ghost use Rattle.std.specs.Prelude.{◌≡◌, ◌≤◌, ◌<◌, ◌≤ℤ◌, ◌+◌, ◌*◌, ◌*ℤ◌, ◌^◌, ◌++◌, ℕ, List, IfOk, Some, decimal, length, neg_ℤ, pos, replicate};
-ghost use Rattle.arrayvec.specs.ArrayVec.{array_vec_len};
+ghost use Rattle.std.specs.Prelude.{◌≡◌, ◌≤◌, ◌<◌, ◌≤ℤ◌, ◌+◌, ◌*◌, ◌*ℤ◌, ◌^◌, ◌++◌, ℕ, List, IfOk, Some, neg_ℤ, pos};
 ghost use Rattle.fixed.specs.Fractions.{bits_of};
 ghost use Rattle.error_bounds.specs.Approximations.{scale};
-ghost use Rattle.line_text.specs.Columns.{decimals_text, zeros_in};
+ghost use Rattle.line_text.specs.Columns.{decimals_text};
 ghost use Rattle.curve_lines.specs.Numbers.{IsBoundText, IsRoundedUp, places, three_digits, value_text};
 
 use fixed::{Frac, Fx, round_div};
-use itoa::Buffer;
 use line_text::{Line, put, put_decimals, put_integer};
 use std::alloc::{AllocError, Allocator};
 
@@ -21,56 +19,6 @@ fn places_of(frac: Frac) -> usize
         Frac::F24 | Frac::F32 => 12,
         Frac::F40 => 14,
     }
-}
-
-// Ten to the power of the number of decimals.
-fn unit_of(frac: Frac) -> u64
-    ensures { result ≡ 10 ^ places (bits_of frac) }
-{
-    match frac {
-        Frac::F24 | Frac::F32 => 1_000_000_000_000,
-        Frac::F40 => 100_000_000_000_000,
-    }
-}
-
-// Appends zeros.
-fn put_zeros(line: &mut Line, count: usize)
-    requires { array_vec_len line.old + count ≤ 160 }
-    ensures items { line.new.items ≡ line.old.items ++ replicate count 48 }
-    ensures len { array_vec_len line.new ≡ array_vec_len line.old + count }
-{
-    for _ in 0..count {
-        line.push(b'0');
-    }
-}
-
-// Appends a number below ten to the power `width` as `width` digits, with zeros in front.
-fn put_digits(line: &mut Line, width: usize, number: u64)
-    requires room { array_vec_len line.old + width ≤ 160 }
-    requires some { 0 < width }
-    requires fits { number < 10 ^ width }
-    ensures items { line.new.items ≡ line.old.items ++ zeros_in width (decimal number) }
-    ensures len { array_vec_len line.new ≡ array_vec_len line.old + width }
-{
-    let mut buffer = Buffer::new();
-    let digits = buffer.format(number).as_bytes();
-    put_zeros(line, width - digits.len());
-    put(line, digits);
-}
-
-// Appends a number with the decimals of a value, given in units of its last decimal.
-fn put_units(line: &mut Line, frac: Frac, number: i128)
-    requires { array_vec_len line.old ≤ 100 }
-    ensures { line.new.items ≡ line.old.items ++ decimals_text (places (bits_of frac)) number }
-{
-    let magnitude = number.unsigned_abs();
-    let unit = u128::from(unit_of(frac));
-    if number < 0 {
-        put(line, b"-");
-    }
-    put_integer(line, magnitude / unit);
-    put(line, b".");
-    put_digits(line, places_of(frac), (magnitude % unit) as u64);
 }
 
 // A raw value times ten to the power of its number of decimals.
@@ -102,7 +50,7 @@ pub(crate) fn put_value<A: Allocator>(
     ensures { IfOk result (λ _. text.new.items ≡ text.old.items ++ value_text (bits_of frac) value) }
 {
     let mut line = Line::new();
-    put_units(&mut line, frac, decimal_of(frac, value));
+    put_decimals(&mut line, places_of(frac), decimal_of(frac, value));
     text.extend_from_slice(line.as_slice())
 }
 

@@ -48,23 +48,14 @@ pub fn digits_up_to(limit: u64, text: &[u8]) -> Option<u64>
     Some(number)
 }
 
-/// Ten to the power `decimals`, which is at most 6.
+/// Ten to the power `decimals`, which is at most 14.
 pub fn power_of_ten(decimals: usize) -> u64
-    requires { decimals ≤ 6 }
+    requires { decimals ≤ 14 }
     ensures exact { result ≡ 10 ^ decimals }
     ensures some { 0 < result }
     ensures few { decimals ≤ 5 → result ≤ 100000 }
-    ensures small { result ≤ 1000000 }
 {
-    match decimals {
-        0 => 1,
-        1 => 10,
-        2 => 100,
-        3 => 1000,
-        4 => 10_000,
-        5 => 100_000,
-        _ => 1_000_000,
-    }
+    10u64.pow(decimals as u32)
 }
 
 /// The number that one or more digits, a point and `decimals` digits denote, in units of the last digit; `None` for any
@@ -119,14 +110,14 @@ fn put_digits(line: &mut Line, width: usize, number: u64)
     put(line, digits);
 }
 
-/// Appends a number with `decimals` decimals (1 to 6), given in units of its last decimal: -1250 with three decimals is
-/// `-1.250`. At most 48 bytes.
+/// Appends a number with `decimals` decimals (1 to 14), given in units of its last decimal: -1250 with three decimals
+/// is `-1.250`. At most 42 bytes and the decimals.
 pub fn put_decimals(line: &mut Line, decimals: usize, number: i128)
-    requires room { array_vec_len line.old + 48 ≤ 160 }
+    requires room { array_vec_len line.old + 42 + decimals ≤ 160 }
     requires some { 0 < decimals }
-    requires few { decimals ≤ 6 }
+    requires few { decimals ≤ 14 }
     ensures items { line.new.items ≡ line.old.items ++ decimals_text decimals number }
-    ensures len { array_vec_len line.new ≤ array_vec_len line.old + 48 }
+    ensures len { array_vec_len line.new ≤ array_vec_len line.old + 42 + decimals }
 {
     let magnitude = number.unsigned_abs();
     let unit = u128::from(power_of_ten(decimals));
