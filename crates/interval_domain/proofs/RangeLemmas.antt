@@ -200,9 +200,7 @@ floor_over_small (negsuc n) d = let k = div-le_self n d in omega arith
 
 -- a number and its negative have one magnitude
 pub negative_magnitude : (n : ℤ) → unsigned_abs (neg_ℤ n) ≡ unsigned_abs n
-negative_magnitude (pos zero) = refl
-negative_magnitude (pos (suc n)) = refl
-negative_magnitude (negsuc n) = refl
+negative_magnitude n = omega (arith, ints)
 
 -- a floor is no greater in magnitude than the dividend
 pub floor_small : (n d : ℤ) → unsigned_abs (floor_of n d) ≤ unsigned_abs n
@@ -219,30 +217,19 @@ up_small n d =
 
 -- quotients with an integer are no greater than the dividends
 pub over_small : (n : ℕ) (x : Range) (d : ℤ) → IsWithin n x → IsWithin n (over x d)
-over_small n x d p =
-    let a = floor_small x.low d in
-    let b = up_small x.high d in
-    let l = p.low in
-    let u = p.high in
-    record { low = omega arith; high = omega arith }
+over_small n x d p = record { low = omega (arith, floor_small x.low d, p.low); high = omega (arith, up_small x.high d, p.high) }
 
 -- quotients are no greater than the dividends
 pub quotients_small : (n : ℕ) (x y : Range) → IsWithin n x → IsWithin n (quotients x y)
 quotients_small n x y p =
-    let Small : ℤ → Type 0 = λ z. unsigned_abs z ≤ n in
-    let low : (d : ℤ) → unsigned_abs (floor_of x.low d) ≤ n = λ d. let k = floor_small x.low d in let l = p.low in omega arith in
-    let high : (d : ℤ) → unsigned_abs (floor_of x.high d) ≤ n = λ d. let k = floor_small x.high d in let l = p.high in omega arith in
-    let low' : (d : ℤ) → unsigned_abs (up_over x.low d) ≤ n = λ d. let k = up_small x.low d in let l = p.low in omega arith in
-    let high' : (d : ℤ) → unsigned_abs (up_over x.high d) ≤ n = λ d. let k = up_small x.high d in let l = p.high in omega arith in
-    let a =
-    around_small n (floor_of x.low y.low) (floor_of x.low y.high) (floor_of x.high y.low) (floor_of x.high y.high)
-    (low y.low) (low y.high) (high y.low) (high y.high)
-    in
-    let b =
-    around_small n (up_over x.low y.low) (up_over x.low y.high) (up_over x.high y.low) (up_over x.high y.high)
-    (low' y.low) (low' y.high) (high' y.low) (high' y.high)
-    in
-    record { low = a.low; high = b.high }
+    let down : (a d : ℤ) → unsigned_abs a ≤ n → unsigned_abs (floor_of a d) ≤ n = λ a d h. omega (arith, floor_small a d, h) in
+    let up : (a d : ℤ) → unsigned_abs a ≤ n → unsigned_abs (up_over a d) ≤ n = λ a d h. omega (arith, up_small a d, h) in
+    record {
+      low = (around_small n (floor_of x.low y.low) (floor_of x.low y.high) (floor_of x.high y.low) (floor_of x.high y.high)
+          (down x.low y.low p.low) (down x.low y.high p.low) (down x.high y.low p.high) (down x.high y.high p.high)).low;
+      high = (around_small n (up_over x.low y.low) (up_over x.low y.high) (up_over x.high y.low) (up_over x.high y.high)
+          (up x.low y.low p.low) (up x.low y.high p.low) (up x.high y.low p.high) (up x.high y.high p.high)).high;
+    }
 
 -- quotients, from the hulls of the floors and of the ceilings
 pub quotients_are : (x y a b p q lows highs : Range)
@@ -273,18 +260,14 @@ difference_magnitude a b = omega (arith, ints)
 
 -- sums of small integers are small
 pub plus_small : (m n : ℕ) (x y : Range) → IsWithin m x → IsWithin n y → IsWithin (m + n) (plus x y)
-plus_small m n x y p q =
-    let a = p.low in
-    let b = p.high in
-    let c = q.low in
-    let d = q.high in
-    record { low = omega (arith, sum_magnitude x.low y.low); high = omega (arith, sum_magnitude x.high y.high) }
+plus_small m n x y p q = record {
+  low = omega (arith, sum_magnitude x.low y.low, p.low, q.low);
+  high = omega (arith, sum_magnitude x.high y.high, p.high, q.high);
+}
 
 -- differences of small integers are small
 pub less_small : (m n : ℕ) (x y : Range) → IsWithin m x → IsWithin n y → IsWithin (m + n) (less x y)
-less_small m n x y p q =
-    let a = p.low in
-    let b = p.high in
-    let c = q.low in
-    let d = q.high in
-    record { low = omega (arith, difference_magnitude x.low y.high); high = omega (arith, difference_magnitude x.high y.low) }
+less_small m n x y p q = record {
+  low = omega (arith, difference_magnitude x.low y.high, p.low, q.high);
+  high = omega (arith, difference_magnitude x.high y.low, p.high, q.low);
+}
