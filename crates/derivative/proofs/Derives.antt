@@ -22,21 +22,17 @@ module _ (new : ℕ → Tree) where
 
   put_operation : (o : Operator) (p q : Bool) (u v du dv : Tree)
       → put new (operation_tree o p q u v du dv) ≡ operation_tree o p q (put new u) (put new v) (put new du) (put new dv)
-  put_operation op.Add p q u v du dv = refl
-  put_operation op.Subtract p q u v du dv = refl
   put_operation op.Multiply true q u v du dv = refl
   put_operation op.Multiply false true u v du dv = refl
   put_operation op.Multiply false false u v du dv = refl
   put_operation op.Divide p true u v du dv = refl
   put_operation op.Divide true false u v du dv = refl
   put_operation op.Divide false false u v du dv = refl
-  put_operation op.Minimum p q u v du dv = refl
-  put_operation op.Maximum p q u v du dv = refl
+  put_operation _ p q u v du dv = refl
 
   put_applied : (bits : ℕ) (g : Function) (u du : Tree) → put new (applied_tree bits g u du) ≡ applied_tree bits g (put new u) (put new du)
   put_applied bits f.SquareRoot u du = refl
-  put_applied bits f.Absolute u du = refl
-  put_applied bits (f.Flat g) u du = refl
+  put_applied bits _ u du = refl
 
   put_if : (b : Bool) (x y : Tree) → put new (if b then x else y) ≡ (if b then put new x else put new y)
   put_if true x y = refl

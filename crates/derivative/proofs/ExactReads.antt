@@ -56,8 +56,6 @@ module _ {V : Type 0} (k : Numbers V) (h : AreExact k) where
 
       exact_operation : (g : Operator) (p q : Bool) (u v du dv : Tree)
           → value (operation_tree g p q u v du dv) ≡ operation_row (exact k) g p q (value u) (value v) (value du) (value dv)
-      exact_operation op.Add p q u v du dv = refl
-      exact_operation op.Subtract p q u v du dv = refl
       exact_operation op.Multiply true q u v du dv = refl
       exact_operation op.Multiply false true u v du dv = refl
       exact_operation op.Multiply false false u v du dv = refl
@@ -65,8 +63,7 @@ module _ {V : Type 0} (k : Numbers V) (h : AreExact k) where
       exact_operation op.Divide true false u v du dv = ap (λ s. (exact k).quotient ((exact k).negative ((exact k).product (value u) (value dv))) s) (power_two (value v))
       exact_operation op.Divide false false u v du dv =
           ap (λ s. (exact k).quotient ((exact k).difference ((exact k).product (value du) (value v)) ((exact k).product (value u) (value dv))) s) (power_two (value v))
-      exact_operation op.Minimum p q u v du dv = refl
-      exact_operation op.Maximum p q u v du dv = refl
+      exact_operation _ p q u v du dv = refl
 
       one_product : (x : Option V) → (exact k).product (Some (k.number (one bits))) x ≡ x
       one_product None = refl

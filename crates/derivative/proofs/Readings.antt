@@ -59,16 +59,13 @@ module _ (bits : ℕ) (one_fits : IsTrue (in_range (one bits))) (inputs : List �
   fixed_operation : (o : Operator) (p q : Bool) (u v du dv : Tree)
       → value_of bits inputs (operation_tree o p q u v du dv)
       ≡ operation_row (fixed_point bits) o p q (value_of bits inputs u) (value_of bits inputs v) (value_of bits inputs du) (value_of bits inputs dv)
-  fixed_operation op.Add p q u v du dv = refl
-  fixed_operation op.Subtract p q u v du dv = refl
   fixed_operation op.Multiply true q u v du dv = refl
   fixed_operation op.Multiply false true u v du dv = refl
   fixed_operation op.Multiply false false u v du dv = refl
   fixed_operation op.Divide p true u v du dv = refl
   fixed_operation op.Divide true false u v du dv = rw (power_two (value_of bits inputs v)) refl
   fixed_operation op.Divide false false u v du dv = rw (power_two (value_of bits inputs v)) refl
-  fixed_operation op.Minimum p q u v du dv = refl
-  fixed_operation op.Maximum p q u v du dv = refl
+  fixed_operation _ p q u v du dv = refl
 
   fixed_applied : (g : Function) (u du e : Tree) → value_of bits inputs du ≡ slope_by (fixed_point bits) (value_of bits inputs) e
       → value_of bits inputs (applied_tree bits g u du) ≡ applied_row (fixed_point bits) g (value_of bits inputs u) (value_of bits inputs du)

@@ -90,9 +90,7 @@ joined_some a b k = omega (arith, length-append a (k ∷ b))
 
 atom_some : {n : ℕ} {a : List Lexed} {x : Syntax} → IsAtom n a x → 0 < length a
 atom_some (g.number at) = omega arith
-atom_some (g.name at) = omega arith
-atom_some (g.call at from to known p c) = omega arith
-atom_some (g.group at to p) = omega arith
+atom_some _ = omega arith
 
 -- a factor has a token
 pub unary_some : {n : ℕ} {a : List Lexed} {x : Syntax} → IsUnary n a x → 0 < length a

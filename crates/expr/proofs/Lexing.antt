@@ -196,18 +196,9 @@ name_again bits b bs rest d ev st =
 -- a token of the text's rule is read
 token_complete : {bits : ℕ} {a rest : List ℕ} {k : Lexeme} → IsToken bits rest a k → token_at bits (a ++ rest) ≡ Ok (k, rest)
 unfolding token_at symbol_of
-token_complete g.plus = refl
-token_complete g.minus = refl
-token_complete g.star = refl
-token_complete g.slash = refl
-token_complete g.caret = refl
-token_complete g.open_parenthesis = refl
-token_complete g.close_parenthesis = refl
-token_complete g.comma = refl
-token_complete g.semicolon = refl
-token_complete g.equals = refl
 token_complete {bits} {a} {rest} (g.number {n} {c} h ends r fits) = numeral_token bits n c rest h ends (constant_given bits n c r fits)
 token_complete {bits} {a} {rest} (g.name {b} {bs} d ev st) = name_again bits b bs rest d ev st
+token_complete _ = refl
 
 -- ---- what is read
 
