@@ -113,11 +113,7 @@ module _ (bits : ℕ) (o : Operator) (a b : Span) where
       -- a quotient by 0
       by_zero : (o : Operator) → divides o ≡ true → operator_value bits o a.lo (pos 0) ≡ Err ZeroDivisor
       by_zero op.Divide e = refl
-      by_zero op.Add e = absurd (cc)
-      by_zero op.Subtract e = absurd (cc)
-      by_zero op.Multiply e = absurd (cc)
-      by_zero op.Minimum e = absurd (cc)
-      by_zero op.Maximum e = absurd (cc)
+      by_zero _ e = absurd (cc)
 
       by_test : (test : Bool) → (divides o && has_zero (span_range b)) ≡ test
           → Ends Outcome (if test then Err ZeroDivisor else at_corners (operator_value bits o) (span_range a) (span_range b))
