@@ -18,8 +18,7 @@ has_front code pc (i ∷ a) b h = (h.0, has_front code (pc + 1) a b h.1)
 pub has_back : (code : List Instr) (pc : ℕ) (a b : List Instr) → HasAt code pc (a ++ b) → HasAt code (pc + length a) b
 has_back code pc [] b h = let e : pc ≡ pc + 0 = omega arith in subst (λ n. HasAt code n b) e h
 has_back code pc (i ∷ a) b h =
-    let e : pc + 1 + length a ≡ pc + length (i ∷ a) = omega arith in
-    subst (λ n. HasAt code n b) e (has_back code (pc + 1) a b h.1)
+    subst (λ n. HasAt code n b) (omega arith) (has_back code (pc + 1) a b h.1)
 
 -- code that consists of a prefix and a list of instructions has the list at the index after the prefix
 pub has_all : (is pre : List Instr) → HasAt (pre ++ is) (length pre) is

@@ -14,8 +14,7 @@ pub kept_scratch : (X : Type 0) (none : X) (right : ℕ → X → Type 0) (ms : 
 kept_scratch X none right ms j i ls x low h = record {
   size = simp length-set h.size;
   each = λ k le e.
-      let ne : local_of k ≢ i = omega arith in
-      subst (right k) (sym (get_or-set_other ls i (local_of k) x none ne)) (h.each k le e);
+      subst (right k) (sym (get_or-set_other ls i (local_of k) x none (omega arith))) (h.each k le e);
 }
 
 -- if the definition j isn't marked, the locals keep the definitions from j on
@@ -39,11 +38,9 @@ kept_more X none right right' ms j ls x later is lt h = record {
       ⊎_elim
       (λ (same : k ≡ j).
       let size = h.size in
-      let within : local_of j < length ls = omega arith in
-      subst (λ q. right' q (slice_index_or (slice_set ls (local_of j) x) (local_of q) none)) (sym same) (subst (right' j) (sym (get_or-set_same ls (local_of j) x none within)) is))
+      subst (λ q. right' q (slice_index_or (slice_set ls (local_of j) x) (local_of q) none)) (sym same) (subst (right' j) (sym (get_or-set_same ls (local_of j) x none (omega arith))) is))
       (λ (ne : k ≢ j).
       let above : j + 1 ≤ k = omega arith in
-      let ne' : local_of k ≢ local_of j = omega arith in
-      subst (right' k) (sym (get_or-set_other ls (local_of j) (local_of k) x none ne')) (later k above (slice_index_or ls (local_of k) none) (h.each k above e)))
+      subst (right' k) (sym (get_or-set_other ls (local_of j) (local_of k) x none (omega arith))) (later k above (slice_index_or ls (local_of k) none) (h.each k above e)))
       (cases_eq k j);
 }

@@ -24,8 +24,7 @@ AllGood len pc (i ∷ is) = (goes_forward len pc i ≡ true) × AllGood len (pc 
 join : (len pc : ℕ) (a b : List Instr) → AllGood len pc a → AllGood len (pc + length a) b → AllGood len pc (a ++ b)
 join len pc [] b h g = let e : pc + 0 ≡ pc = omega arith in subst (λ p. AllGood len p b) e g
 join len pc (i ∷ a) b h g =
-    let e : pc + length (i ∷ a) ≡ pc + 1 + length a = omega arith in
-    (h.0, join len (pc + 1) a b h.1 (subst (λ p. AllGood len p b) e g))
+    (h.0, join len (pc + 1) a b h.1 (subst (λ p. AllGood len p b) (omega arith) g))
 
 jumps : (len pc to : ℕ) → pc < to → to ≤ len → (nat_lt pc to && nat_le to len) ≡ true
 jumps len pc to h g =
@@ -100,9 +99,8 @@ definitions_good len bits j ms (d ∷ ds) h =
     let later = definitions_code bits (j + 1) ms ds in
     let kept = is_marked ms j in
     let l1 = length-append later (kept_code kept bits (length later) j d) in
-    let e : length later ≡ 0 + length later = omega arith in
     join len 0 later _ (definitions_good len bits (j + 1) ms ds (omega arith))
-    (subst (λ p. AllGood len p (kept_code kept bits (length later) j d)) e (kept_good kept len bits (length later) j d (omega arith)))
+    (subst (λ p. AllGood len p (kept_code kept bits (length later) j d)) (omega arith) (kept_good kept len bits (length later) j d (omega arith)))
 
 program_good : (bits : ℕ) (body : Tree) (ds : List Tree) → AllGood (length (program_code bits body ds)) 0 (program_code bits body ds)
 unfolding program_code
@@ -110,27 +108,23 @@ program_good bits body ds =
     let first = definitions_code bits 0 (marks_of body ds) ds in
     let last = tree_code bits (length first) body in
     let l1 = length-append first last in
-    let e : length first ≡ 0 + length first = omega arith in
     join (length (first ++ last)) 0 first last (definitions_good _ bits 0 (marks_of body ds) ds (omega arith))
-    (subst (λ p. AllGood (length (first ++ last)) p last) e (tree_good (length (first ++ last)) bits (length first) body (omega arith)))
+    (subst (λ p. AllGood (length (first ++ last)) p last) (omega arith) (tree_good (length (first ++ last)) bits (length first) body (omega arith)))
 
 by_index : (len pc : ℕ) (is : List Instr) → AllGood len pc is → (k : ℕ) (i : Instr) → slice_get is k ≡ Some i → goes_forward len (pc + k) i ≡ true
 by_index len pc [] h k i e = absurd (cc)
 by_index len pc (x ∷ is) h zero i e =
     let same : x ≡ i = cc in
-    let p : pc ≡ pc + 0 = omega arith in
-    subst (λ q. goes_forward len q i ≡ true) p (subst (λ (y : Instr). goes_forward len pc y ≡ true) same h.0)
+    subst (λ q. goes_forward len q i ≡ true) (omega arith) (subst (λ (y : Instr). goes_forward len pc y ≡ true) same h.0)
 by_index len pc (x ∷ is) h (suc k) i e =
-    let p : pc + 1 + k ≡ pc + suc k = omega arith in
-    subst (λ q. goes_forward len q i ≡ true) p (by_index len (pc + 1) is h.1 k i e)
+    subst (λ q. goes_forward len q i ≡ true) (omega arith) (by_index len (pc + 1) is h.1 k i e)
 
 -- a program's code within the limit is code
 pub program_is_code : (bits : ℕ) (body : Tree) (ds : List Tree) → definitions_size 0 (marks_of body ds) ds + size body ≤ 16384 → IsCode (program_code bits body ds)
 program_is_code bits body ds short = record {
   short = omega (arith, length-program bits body ds);
   forward = λ pc i here.
-      let p : 0 + pc ≡ pc = omega arith in
-      subst (λ q. goes_forward (length (program_code bits body ds)) q i ≡ true) p
+      subst (λ q. goes_forward (length (program_code bits body ds)) q i ≡ true) (omega arith)
       (by_index (length (program_code bits body ds)) 0 (program_code bits body ds) (program_good bits body ds) pc i here);
 }
 

@@ -23,17 +23,13 @@ patch_choice bits k a b base c1 c2 c3 c4 c5 x y n1 n2 s e e1 m1 e2 e3 m2 e4 m3 e
     let cb = tree_code bits second b in
     let l1 = ap length e1 ∙ length-append base ck in
     let l2 = ap length e2 ∙ length-append c1 (x ∷ []) in
-    let at2 : length c2 ≡ first = omega arith in
-    let e3' : c3 ≡ c2 ++ ca = e3 ∙ ap (λ p. c2 ++ tree_code bits p a) at2 in
+    let e3' : c3 ≡ c2 ++ ca = e3 ∙ ap (λ p. c2 ++ tree_code bits p a) (omega arith) in
     let l3 = ap length e3' ∙ length-append c2 ca in
     let l4 = ap length e4 ∙ length-append c3 (y ∷ []) in
-    let at4 : length c4 ≡ second = omega arith in
-    let e5' : c5 ≡ c4 ++ cb = e5 ∙ ap (λ p. c4 ++ tree_code bits p b) at4 in
+    let e5' : c5 ≡ c4 ++ cb = e5 ∙ ap (λ p. c4 ++ tree_code bits p b) (omega arith) in
     let l5 = ap length e5' ∙ length-append c4 cb in
     let i = JumpIfZero s in
     let j = Jump e in
-    let d1 : s ≡ second = omega arith in
-    let d2 : e ≡ second + length cb = omega arith in
     let at : n2 ≡ length (c1 ++ i ∷ ca) = omega (arith, length-append c1 (i ∷ ca)) in
     let all : c5 ≡ (((c1 ++ x ∷ []) ++ ca) ++ y ∷ []) ++ cb = cc in
     let flat : (((c1 ++ x ∷ []) ++ ca) ++ y ∷ []) ++ cb ≡ c1 ++ x ∷ (ca ++ y ∷ cb) = simp append_assoc in
@@ -43,5 +39,5 @@ patch_choice bits k a b base c1 c2 c3 c4 c5 x y n1 n2 s e e1 m1 e2 e3 m2 e4 m3 e
     ∙ two_writes c1 ca cb x y i j
     ∙ ap (λ l. l ++ i ∷ (ca ++ j ∷ cb)) e1
     ∙ append_assoc base ck (i ∷ (ca ++ j ∷ cb))
-    ∙ ap (λ n. base ++ (ck ++ JumpIfZero n ∷ (ca ++ j ∷ cb))) d1
-    ∙ ap (λ n. base ++ (ck ++ JumpIfZero second ∷ (ca ++ Jump n ∷ cb))) d2
+    ∙ ap (λ n. base ++ (ck ++ JumpIfZero n ∷ (ca ++ j ∷ cb))) (omega arith)
+    ∙ ap (λ n. base ++ (ck ++ JumpIfZero second ∷ (ca ++ Jump n ∷ cb))) (omega arith)

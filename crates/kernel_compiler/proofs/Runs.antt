@@ -1,5 +1,5 @@
 -- The machine computes a tree's value.
-use Rattle.std.proofs.Common.{◌≡◌, ◌≢◌, ℕ, zero, suc, ◌+◌, ◌/◌, ◌%◌, ◌==◌, ◌<◌, ◌≤◌, min, List, [], ◌∷◌, ◌++◌, length, Option, Some, None, Result, Ok, Err, refl, sym, ap, ◌∙◌, subst, arith, length-append, ℤ, pos, negsuc, Bool, true, false, nat_lt, if◌then◌else◌, get_or-set_other, get_or-set_same, slice_get, slice_set, slice_index_or, length-set}
+use Rattle.std.proofs.Common.{◌≡◌, ℕ, zero, suc, ◌+◌, ◌/◌, ◌%◌, ◌==◌, ◌<◌, ◌≤◌, min, List, [], ◌∷◌, ◌++◌, length, Option, Some, None, Result, Ok, Err, refl, sym, ap, ◌∙◌, subst, arith, length-append, ℤ, pos, negsuc, Bool, true, false, nat_lt, if◌then◌else◌, get_or-set_other, get_or-set_same, slice_get, slice_set, slice_index_or, length-set}
 use Rattle.std.proofs.lemmas.Bool.Decides.{nat_tests}
 use Rattle.std.proofs.lemmas.Option.{slice_get-get_or}
 use Rattle.fixed.specs.declared.faults.Fault.{Fault}
@@ -115,8 +115,7 @@ module _ (bits : ℕ) (code : List Instr) (xs : List ℤ) where
   product_same : (r : Result ℤ Fault) (x : ℤ) (pc : ℕ) (stack : List ℤ) (ls : List (Option ℤ)) → HasAt code pc (Get base ∷ Binary Multiply ∷ []) → length stack + 2 ≤ 64 → slice_index_or ls base None ≡ Some x → Same ls pc stack (number_of r) → Same ls (pc + 1 + 1) stack (number_of (then_apply r (λ y. product_of bits y x)))
   product_same (Err fault) x pc stack ls has h e g = g
   product_same (Ok y) x pc stack ls has h e g =
-      let r : length (y ∷ stack) + 1 ≤ 64 = omega arith in
-      let c = get_local base x pc (y ∷ stack) ls has.0 r e g in
+      let c = get_local base x pc (y ∷ stack) ls has.0 (omega arith) e g in
       given_same (product_of bits y x) (Binary Multiply) (pc + 1) (x ∷ y ∷ stack) stack ls has.1.0 refl c
 
   abbrev power_after : Bool → Bool → Result ℤ Fault → ℤ → Result ℤ Fault
@@ -224,12 +223,10 @@ module _ (bits : ℕ) (code : List Instr) (xs : List ℤ) where
     raised_same (negsuc n) x pc stack ls has h e c =
         let ls' = slice_set ls base (Some x) in
         let c1 = comes_on pc (pc + 1) (x ∷ stack) stack ls ls' (Keep base) has.0 refl c in
-        let r1 : length stack + 1 ≤ 64 = omega arith in
-        let r2 : length (one bits ∷ stack) + 2 ≤ 64 = omega arith in
-        let c2 = comes_on (pc + 1) (pc + 1 + 1) stack (one bits ∷ stack) ls' ls' (Push (one bits)) has.1.0 (room (one bits) (pc + 1) stack ls' r1) c1 in
+        let c2 = comes_on (pc + 1) (pc + 1 + 1) stack (one bits ∷ stack) ls' ls' (Push (one bits)) has.1.0 (room (one bits) (pc + 1) stack ls' (omega arith)) c1 in
         let front = power_code (suc n) in
         let hb = has_back code (pc + 1 + 1) front (Binary Divide ∷ []) has.1.1 in
-        let g = power_runs (suc n) (suc n) x (pc + 1 + 1) (one bits ∷ stack) ls' (has_front code (pc + 1 + 1) front _ has.1.1) r2 e c2 in
+        let g = power_runs (suc n) (suc n) x (pc + 1 + 1) (one bits ∷ stack) ls' (has_front code (pc + 1 + 1) front _ has.1.1) (omega arith) e c2 in
         same_to ls' _ _ stack (number_of (signed_power_of bits x (negsuc n))) (omega (arith, length-append front (Binary Divide ∷ [])))
         (reciprocal_same (power_of bits x (suc n)) (pc + 1 + 1 + length front) stack ls' hb.0 g)
 
@@ -239,8 +236,7 @@ module _ (bits : ℕ) (code : List Instr) (xs : List ℤ) where
     raised_gives (Some x) n pc stack has h g =
         let ls = slice_set g.locals base (Some x) in
         let size = g.held.size in
-        let lt : base < length g.locals = omega arith in
-        let e = get_or-set_same g.locals base (Some x) None lt in
+        let e = get_or-set_same g.locals base (Some x) None (omega arith) in
         from_same (number_of (signed_power_of bits x n)) (pc + length (raised_code bits n)) stack ls (kept_scratch (Option ℤ) None _ ms j base g.locals (Some x) (omega arith) g.held) (raised_same n x pc stack g.locals has h e g.comes)
 
     -- ---- two parts
@@ -253,17 +249,12 @@ module _ (bits : ℕ) (code : List Instr) (xs : List ℤ) where
         let held = kept_scratch (Option ℤ) None _ ms j base ls1 (Some y) (omega arith) (kept_scratch (Option ℤ) None _ ms j spare g.locals (Some x) (omega arith) g.held) in
         let size = g.held.size in
         let size1 : length ls1 ≡ 256 = simp length-set size in
-        let lt : spare < length g.locals = omega arith in
-        let lt1 : base < length ls1 = omega arith in
-        let ne : spare ≢ base = omega arith in
-        let e1 = get_or-set_other ls1 base spare (Some y) None ne ∙ get_or-set_same g.locals spare (Some x) None lt in
-        let e2 = get_or-set_same ls1 base (Some y) None lt1 in
+        let e1 = get_or-set_other ls1 base spare (Some y) None (omega arith) ∙ get_or-set_same g.locals spare (Some x) None (omega arith) in
+        let e2 = get_or-set_same ls1 base (Some y) None (omega arith) in
         let c1 = comes_on pc (pc + 1) (x ∷ y ∷ stack) (y ∷ stack) g.locals ls1 (Keep spare) has.0 refl g.comes in
         let c2 = comes_on (pc + 1) (pc + 1 + 1) (y ∷ stack) stack ls1 ls2 (Keep base) has.1.0 refl c1 in
-        let r1 : length stack + 1 ≤ 64 = omega arith in
-        let r2 : length (x ∷ stack) + 1 ≤ 64 = omega arith in
-        let c3 = get_local spare x (pc + 1 + 1) stack ls2 has.1.1.0 r1 e1 c2 in
-        let c4 = get_local base y (pc + 1 + 1 + 1) (x ∷ stack) ls2 has.1.1.1.0 r2 e2 c3 in
+        let c3 = get_local spare x (pc + 1 + 1) stack ls2 has.1.1.0 (omega arith) e1 c2 in
+        let c4 = get_local base y (pc + 1 + 1 + 1) (x ∷ stack) ls2 has.1.1.1.0 (omega arith) e2 c3 in
         gives_to _ _ stack (number_of (operator_value bits o x y)) (omega arith)
         (given_gives (operator_value bits o x y) (Binary o) (pc + 1 + 1 + 1 + 1) (y ∷ x ∷ stack) stack ls2 has.1.1.1.1.0 refl held c4)
 
@@ -282,12 +273,10 @@ module _ (bits : ℕ) (code : List Instr) (xs : List ℤ) where
         let hb = has_back code pc ca (cb ++ (Binary o ∷ [])) has in
         let at = (has_back code (pc + length ca) cb (Binary o ∷ []) hb).0 in
         let len : pc + length ca + length cb + 1 ≡ pc + length (ca ++ (cb ++ (Binary o ∷ []))) = omega (arith, length-append ca (cb ++ (Binary o ∷ [])), length-append cb (Binary o ∷ [])) in
-        let h1 : length stack + na ≤ 64 = omega arith in
-        let h2 : suc (length stack) + nb ≤ 64 = omega arith in
         gives_to _ _ stack (on_two (operator_value bits o) oa ob) len
         (two_gives o oa ob (pc + length ca) (pc + length ca + length cb) stack at
-        (ra pc stack ls (has_front code pc ca _ has) h1 held c)
-        (λ x g. rb (pc + length ca) (x ∷ stack) g.locals (has_front code _ cb _ hb) h2 g.held g.comes))
+        (ra pc stack ls (has_front code pc ca _ has) (omega arith) held c)
+        (λ x g. rb (pc + length ca) (x ∷ stack) g.locals (has_front code _ cb _ hb) (omega arith) g.held g.comes))
     pair_runs true o fa fb oa ob na nb pc stack ls least has h ra rb held c =
         let tail = exchange_code ++ (Binary o ∷ []) in
         let cb = fb pc in
@@ -295,13 +284,10 @@ module _ (bits : ℕ) (code : List Instr) (xs : List ℤ) where
         let ha = has_back code pc cb (ca ++ tail) has in
         let at = has_back code (pc + length cb) ca tail ha in
         let len : pc + length cb + length ca + 5 ≡ pc + length (cb ++ (ca ++ tail)) = omega (arith, length-append cb (ca ++ tail), length-append ca tail) in
-        let h1 : length stack + nb ≤ 64 = omega arith in
-        let h2 : suc (length stack) + na ≤ 64 = omega arith in
-        let h3 : length stack + 2 ≤ 64 = omega arith in
         gives_to _ _ stack (on_two (operator_value bits o) oa ob) len
-        (swapped_gives o oa ob (pc + length cb) (pc + length cb + length ca) stack at h3
-        (rb pc stack ls (has_front code pc cb _ has) h1 held c)
-        (λ y g. ra (pc + length cb) (y ∷ stack) g.locals (has_front code _ ca _ ha) h2 g.held g.comes))
+        (swapped_gives o oa ob (pc + length cb) (pc + length cb + length ca) stack at (omega arith)
+        (rb pc stack ls (has_front code pc cb _ has) (omega arith) held c)
+        (λ y g. ra (pc + length cb) (y ∷ stack) g.locals (has_front code _ ca _ ha) (omega arith) g.held g.comes))
 
     -- ---- trees
 
@@ -317,9 +303,8 @@ module _ (bits : ℕ) (code : List Instr) (xs : List ℤ) where
     pub tree_runs : (inputs : ℕ) → inputs ≤ length xs → (e : Tree) (pc : ℕ) (stack : List ℤ) (ls : List (Option ℤ)) → HasAt code pc (tree_code bits pc e) → IsFine inputs ms j e → length stack + stack_depth e ≤ 64 → Holds ls → Comes pc stack ls → Gives (pc + length (tree_code bits pc e)) stack (value_of bits xs (put mean e))
     tree_runs inputs enough (t.Number n) pc stack ls has fine h held c = push_gives (Push n.value) n.value pc stack ls has.0 refl h held c
     tree_runs inputs enough (t.Input k) pc stack ls has fine h held c =
-        let lt : k < length xs = omega arith in
         let v = slice_index_or xs k (pos 0) in
-        let e = slice_get-get_or xs k (pos 0) lt in
+        let e = slice_get-get_or xs k (pos 0) (omega arith) in
         gives_value (pc + 1) stack (Some v) (slice_get xs k) (sym e) (push_gives (Input k) v pc stack ls has.0 (ap (λ o. pushed_if MissingInput o pc stack ls) e) h held c)
     tree_runs inputs enough (t.Definition k) pc stack ls has fine h held c =
         let a = held.each k fine.0 fine.1 in
@@ -341,11 +326,9 @@ module _ (bits : ℕ) (code : List Instr) (xs : List ℤ) where
         let tail = raised_code bits n in
         let hb = has_back code pc ca tail has in
         let len : pc + length ca + length tail ≡ pc + length (ca ++ tail) = omega (arith, length-append ca tail) in
-        let ra : length stack + stack_depth a ≤ 64 = omega arith in
-        let rp : length stack + raised_need n ≤ 64 = omega arith in
         let va = value_of bits xs (put mean a) in
         gives_to _ _ stack (power bits va n) len
-        (raised_gives va n (pc + length ca) stack hb rp (tree_runs inputs enough a pc stack ls (has_front code pc ca _ has) fine ra held c))
+        (raised_gives va n (pc + length ca) stack hb (omega arith) (tree_runs inputs enough a pc stack ls (has_front code pc ca _ has) fine (omega arith) held c))
     tree_runs inputs enough (t.Select x a b) pc stack ls has fine h held c =
         let cx = tree_code bits pc x in
         let first = pc + length cx + 1 in
@@ -356,14 +339,11 @@ module _ (bits : ℕ) (code : List Instr) (xs : List ℤ) where
         let hk = has_back code pc cx (JumpIfZero second ∷ tail) has in
         let hb = has_back code first ca (Jump (second + length cb) ∷ cb) hk.1 in
         let len : second + length cb ≡ pc + length (cx ++ (JumpIfZero second ∷ tail)) = omega (arith, length-append cx (JumpIfZero second ∷ tail), length-append ca (Jump (second + length cb) ∷ cb)) in
-        let rx : length stack + stack_depth x ≤ 64 = omega arith in
-        let ra : length stack + stack_depth a ≤ 64 = omega arith in
-        let rb : length stack + stack_depth b ≤ 64 = omega arith in
         let vx = value_of bits xs (put mean x) in
         let va = value_of bits xs (put mean a) in
         let vb = value_of bits xs (put mean b) in
         gives_to _ _ stack (selected vx va vb) len
         (choice_gives vx va vb (pc + length cx) (first + length ca) (second + length cb) stack hk.0 hb.0
-        (tree_runs inputs enough x pc stack ls (has_front code pc cx _ has) fine.0 rx held c)
-        (λ ls' held' c'. tree_runs inputs enough a first stack ls' (has_front code first ca _ hk.1) fine.1 ra held' c')
-        (λ ls' held' c'. tree_runs inputs enough b second stack ls' hb.1 fine.2 rb held' c'))
+        (tree_runs inputs enough x pc stack ls (has_front code pc cx _ has) fine.0 (omega arith) held c)
+        (λ ls' held' c'. tree_runs inputs enough a first stack ls' (has_front code first ca _ hk.1) fine.1 (omega arith) held' c')
+        (λ ls' held' c'. tree_runs inputs enough b second stack ls' hb.1 fine.2 (omega arith) held' c'))

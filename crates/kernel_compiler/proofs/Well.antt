@@ -1,5 +1,5 @@
 -- No path of a tree's code misses anything.
-use Rattle.std.proofs.Common.{◌≡◌, ◌≢◌, ℕ, zero, suc, ◌+◌, ◌-◌, ◌/◌, ◌%◌, ◌==◌, ◌<◌, ◌≤◌, min, List, [], ◌∷◌, ◌++◌, length, refl, sym, ◌∙◌, ⊎_elim, arith, length-append, ℤ, pos, negsuc, Bool, true, false, get_or-set_other, get_or-set_same, slice_set, slice_index_or, length-set}
+use Rattle.std.proofs.Common.{◌≡◌, ℕ, zero, suc, ◌+◌, ◌-◌, ◌/◌, ◌%◌, ◌==◌, ◌≤◌, min, List, [], ◌∷◌, ◌++◌, length, refl, sym, ◌∙◌, ⊎_elim, arith, length-append, ℤ, pos, negsuc, Bool, true, false, get_or-set_other, get_or-set_same, slice_set, slice_index_or, length-set}
 use Rattle.fixed.specs.Arithmetic.{one}
 use Rattle.fixed.specs.declared.operations.Operator.{Operator}
 use Rattle.fixed.specs.declared.operations.Operator.TheVariants.{Multiply, Divide}
@@ -47,17 +47,15 @@ module _ (code : List Instr) (inputs : ℕ) where
   raised_well : (bits : ℕ) (n : ℤ) (pc height : ℕ) (set : List Bool) → HasAt code pc (raised_code bits n) → height + raised_need n ≤ 64 → slice_index_or (slice_set set base true) base false ≡ true → Well code inputs (pc + length (raised_code bits n)) (height + 1) (slice_set set base true) → Well code inputs pc (height + 1) set
   raised_well bits (pos n) pc height set has h e w =
       let set' = slice_set set base true in
-      let len : pc + length (raised_code bits (pos n)) ≡ pc + 1 + length (power_code n) = omega arith in
-      keep_well code inputs base pc height set has.0 (power_well n n (pc + 1) height set' has.1 h e (well_at code inputs _ _ (height + 1) (height + 1) set' len refl w))
+      keep_well code inputs base pc height set has.0 (power_well n n (pc + 1) height set' has.1 h e (well_at code inputs _ _ (height + 1) (height + 1) set' (omega arith) refl w))
   raised_well bits (negsuc n) pc height set has h e w =
       let set' = slice_set set base true in
       let front = power_code (suc n) in
       let tail = Binary Divide ∷ [] in
       let len : pc + length (raised_code bits (negsuc n)) ≡ pc + 1 + 1 + length front + 1 = omega (arith, length-append front tail) in
       let hb = has_back code (pc + 1 + 1) front tail has.1.1 in
-      let r : height + 1 + 2 ≤ 64 = omega arith in
       let w3 = binary_well code inputs Divide (pc + 1 + 1 + length front) height set' hb.0 (well_at code inputs _ _ (height + 1) (height + 1) set' len refl w) in
-      let w2 = power_well (suc n) (suc n) (pc + 1 + 1) (height + 1) set' (has_front code (pc + 1 + 1) front tail has.1.1) r e w3 in
+      let w2 = power_well (suc n) (suc n) (pc + 1 + 1) (height + 1) set' (has_front code (pc + 1 + 1) front tail has.1.1) (omega arith) e w3 in
       keep_well code inputs base pc height set has.0 (push_well code inputs (one bits) (pc + 1) height set' has.1.0 (omega arith) w2)
 
   module _ (ms : List Bool) (j : ℕ) where
@@ -69,13 +67,9 @@ module _ (code : List Instr) (inputs : ℕ) where
         let held2 = kept_scratch Bool false _ ms j base s1 true (omega arith) (kept_scratch Bool false _ ms j spare set true (omega arith) held) in
         let size = held.size in
         let size1 : length s1 ≡ 256 = simp length-set size in
-        let lt : spare < length set = omega arith in
-        let lt1 : base < length s1 = omega arith in
-        let ne : spare ≢ base = omega arith in
-        let e1 = get_or-set_other s1 base spare true false ne ∙ get_or-set_same set spare true false lt in
-        let e2 = get_or-set_same s1 base true false lt1 in
-        let end : pc + 5 ≡ pc + 1 + 1 + 1 + 1 + 1 = omega arith in
-        let w5 : Well code inputs (pc + 1 + 1 + 1 + 1) (height + 1 + 1) s2 = binary_well code inputs o (pc + 1 + 1 + 1 + 1) height s2 has.1.1.1.1.0 (well_at code inputs _ _ (height + 1) (height + 1) s2 end refl (next s2 held2)) in
+        let e1 = get_or-set_other s1 base spare true false (omega arith) ∙ get_or-set_same set spare true false (omega arith) in
+        let e2 = get_or-set_same s1 base true false (omega arith) in
+        let w5 : Well code inputs (pc + 1 + 1 + 1 + 1) (height + 1 + 1) s2 = binary_well code inputs o (pc + 1 + 1 + 1 + 1) height s2 has.1.1.1.1.0 (well_at code inputs _ _ (height + 1) (height + 1) s2 (omega arith) refl (next s2 held2)) in
         let w4 : Well code inputs (pc + 1 + 1 + 1) (height + 1) s2 = get_well code inputs base (pc + 1 + 1 + 1) (height + 1) s2 has.1.1.1.0 (omega arith) e2 w5 in
         let w3 : Well code inputs (pc + 1 + 1) height s2 = get_well code inputs spare (pc + 1 + 1) height s2 has.1.1.0 (omega arith) e1 w4 in
         let w2 : Well code inputs (pc + 1) (height + 1) s1 = keep_well code inputs base (pc + 1) height s1 has.1.0 w3 in
@@ -91,10 +85,8 @@ module _ (code : List Instr) (inputs : ℕ) where
         let hb = has_back code pc ca (cb ++ (Binary o ∷ [])) has in
         let at = (has_back code (pc + length ca) cb (Binary o ∷ []) hb).0 in
         let len : pc + length (ca ++ (cb ++ (Binary o ∷ []))) ≡ pc + length ca + length cb + 1 = omega (arith, length-append ca (cb ++ (Binary o ∷ [])), length-append cb (Binary o ∷ [])) in
-        let h1 : height + na ≤ 64 = omega arith in
-        let h2 : height + 1 + nb ≤ 64 = omega arith in
-        wa pc height set (has_front code pc ca _ has) h1 held (λ k1 held1.
-        wb (pc + length ca) (height + 1) k1 (has_front code _ cb _ hb) h2 held1 (λ k2 held2.
+        wa pc height set (has_front code pc ca _ has) (omega arith) held (λ k1 held1.
+        wb (pc + length ca) (height + 1) k1 (has_front code _ cb _ hb) (omega arith) held1 (λ k2 held2.
         binary_well code inputs o (pc + length ca + length cb) height k2 at (well_at code inputs _ _ (height + 1) (height + 1) k2 len refl (next k2 held2))))
     pair_well true o fa fb na nb pc height set least has h wa wb held next =
         let tail = exchange_code ++ (Binary o ∷ []) in
@@ -103,12 +95,9 @@ module _ (code : List Instr) (inputs : ℕ) where
         let ha = has_back code pc cb (ca ++ tail) has in
         let at = has_back code (pc + length cb) ca tail ha in
         let len : pc + length (cb ++ (ca ++ tail)) ≡ pc + length cb + length ca + 5 = omega (arith, length-append cb (ca ++ tail), length-append ca tail) in
-        let h1 : height + nb ≤ 64 = omega arith in
-        let h2 : height + 1 + na ≤ 64 = omega arith in
-        let h3 : height + 2 ≤ 64 = omega arith in
-        wb pc height set (has_front code pc cb _ has) h1 held (λ k1 held1.
-        wa (pc + length cb) (height + 1) k1 (has_front code _ ca _ ha) h2 held1 (λ k2 held2.
-        swap_well o (pc + length cb + length ca) height k2 at h3 held2 (λ k3 held3. well_at code inputs _ _ (height + 1) (height + 1) k3 len refl (next k3 held3))))
+        wb pc height set (has_front code pc cb _ has) (omega arith) held (λ k1 held1.
+        wa (pc + length cb) (height + 1) k1 (has_front code _ ca _ ha) (omega arith) held1 (λ k2 held2.
+        swap_well o (pc + length cb + length ca) height k2 at (omega arith) held2 (λ k3 held3. well_at code inputs _ _ (height + 1) (height + 1) k3 len refl (next k3 held3))))
 
     -- ---- trees
 
@@ -140,13 +129,10 @@ module _ (code : List Instr) (inputs : ℕ) where
         let ca = tree_code bits pc a in
         let tail = raised_code bits n in
         let len : pc + length (ca ++ tail) ≡ pc + length ca + length tail = omega (arith, length-append ca tail) in
-        let ra : height + stack_depth a ≤ 64 = omega arith in
-        let rp : height + raised_need n ≤ 64 = omega arith in
-        tree_well bits a pc height set (has_front code pc ca tail has) fine ra held (λ k1 held1.
+        tree_well bits a pc height set (has_front code pc ca tail has) fine (omega arith) held (λ k1 held1.
         let size = held1.size in
-        let lt : base < length k1 = omega arith in
         let k2 = slice_set k1 base true in
-        raised_well bits n (pc + length ca) height k1 (has_back code pc ca tail has) rp (get_or-set_same k1 base true false lt)
+        raised_well bits n (pc + length ca) height k1 (has_back code pc ca tail has) (omega arith) (get_or-set_same k1 base true false (omega arith))
         (well_at code inputs _ _ (height + 1) (height + 1) k2 len refl (next k2 (kept_scratch Bool false _ ms j base k1 true (omega arith) held1))))
     tree_well bits (t.Select x a b) pc height set has fine h held next =
         let cx = tree_code bits pc x in
@@ -158,15 +144,11 @@ module _ (code : List Instr) (inputs : ℕ) where
         let hk = has_back code pc cx (JumpIfZero second ∷ tail) has in
         let hb = has_back code first ca (Jump (second + length cb) ∷ cb) hk.1 in
         let len : pc + length (cx ++ (JumpIfZero second ∷ tail)) ≡ second + length cb = omega (arith, length-append cx (JumpIfZero second ∷ tail), length-append ca (Jump (second + length cb) ∷ cb)) in
-        let rx : height + stack_depth x ≤ 64 = omega arith in
-        let ra : height + stack_depth a ≤ 64 = omega arith in
-        let rb : height + stack_depth b ≤ 64 = omega arith in
-        let one : 1 ≤ height + 1 = omega arith in
         let q : height ≡ height + 1 - 1 = omega arith in
         let end : (k3 : List Bool) → Keeps ms j k3 → Well code inputs (second + length cb) (height + 1) k3 = λ k3 held3. well_at code inputs _ _ (height + 1) (height + 1) k3 len refl (next k3 held3) in
-        tree_well bits x pc height set (has_front code pc cx _ has) fine.0 rx held (λ k1 held1.
-        let wa : Well code inputs first height k1 = tree_well bits a first height k1 (has_front code first ca _ hk.1) fine.1 ra held1 (λ k2 held2.
+        tree_well bits x pc height set (has_front code pc cx _ has) fine.0 (omega arith) held (λ k1 held1.
+        let wa : Well code inputs first height k1 = tree_well bits a first height k1 (has_front code first ca _ hk.1) fine.1 (omega arith) held1 (λ k2 held2.
         well_on code inputs (Jump (second + length cb)) (first + length ca) (height + 1) k2 hb.0 tt tt (λ to may. well_at code inputs _ to _ _ k2 (sym may) refl (end k2 held2))) in
-        let wb : Well code inputs second height k1 = tree_well bits b second height k1 hb.1 fine.2 rb held1 end in
-        well_on code inputs (JumpIfZero second) (pc + length cx) (height + 1) k1 hk.0 one tt (λ to may.
+        let wb : Well code inputs second height k1 = tree_well bits b second height k1 hb.1 fine.2 (omega arith) held1 end in
+        well_on code inputs (JumpIfZero second) (pc + length cx) (height + 1) k1 hk.0 (omega arith) tt (λ to may.
         ⊎_elim (λ e. well_at code inputs first to height (height + 1 - 1) k1 (sym e) q wa) (λ e. well_at code inputs second to height (height + 1 - 1) k1 (sym e) q wb) may))
