@@ -7,3 +7,5 @@ pub mod BoundLaws
 pub mod ReportLaws
 pub mod WritingLaws
 pub mod GridLaws
+pub mod NamedLaws
+pub mod SecondLaws

@@ -61,7 +61,8 @@ module _ {V : Type 0} (k : Numbers V) (h : AreOrdered k) (bits : ℕ) where
   others_right (c ∷ cs) [] r (suc i) = others_right cs [] (λ j w e y f. absurd (cc)) i
   others_right (c ∷ cs) (x ∷ xs) r (suc i) = others_right cs xs (λ j w e y f. r (suc j) w e y f) i
 
-  inputs_right : (r : Range) (z : ℤ) (d : V) (others : List Constant) (xs : List V) → IsIn z r → WasRoundedDown k bits z d → WereRead k bits others xs
+  -- the inputs on a range are approximations of a distance in it and of the exact numbers
+  pub inputs_right : (r : Range) (z : ℤ) (d : V) (others : List Constant) (xs : List V) → IsIn z r → WasRoundedDown k bits z d → WereRead k bits others xs
       → AreApproximated k bits (distances r ∷ map as_read others) (z ∷ numbers_of others) (d ∷ xs)
   inputs_right r z d others xs m w o zero = (z, refl, (distance_agrees k h bits r z d m w).computed, λ x e. subst (Agrees k bits (distances r) z) (some_is d x e) (distance_agrees k h bits r z d m w))
   inputs_right r z d others xs m w o (suc i) = others_right others xs o i

@@ -1,10 +1,11 @@
-//! The theorem on error bounds.
+//! The theorems on error bounds, and on the bound of the grid.
 
-ghost use Rattle.std.specs.Prelude.{◌≡◌, ◌∷◌, ℕ, ℤ, List};
+ghost use Rattle.std.specs.Prelude.{◌≡◌, ◌∷◌, ℕ, ℤ, List, Ok};
 ghost use Rattle.energy_program.specs.Programs.{Trees};
 ghost use Rattle.energy_program.specs.Tree.{substituted};
-ghost use Rattle.derivative.specs.DualNumbers.{IsScoped};
-ghost use Rattle.derivative.specs.Exact.{Numbers};
+ghost use Rattle.derivative.specs.Derive.{slope_program, with_all};
+ghost use Rattle.derivative.specs.DualNumbers.{IsDerivativeProgram, IsScoped};
+ghost use Rattle.derivative.specs.Exact.{AreExact, Numbers, StandsForFraction};
 ghost use Rattle.fixed.specs.Fractions.{bits_of};
 ghost use Rattle.fixed.specs.declared.constants.Constant.{Constant};
 ghost use Rattle.job.specs.Values.{JobValue};
@@ -16,6 +17,7 @@ ghost use Rattle.interval_domain.specs.Ranges.{Range};
 ghost use Rattle.curve_lines.specs.declared.rows.Row.{Row};
 ghost use Rattle.curves.specs.declared.plans.CurvePlan.{CurvePlan};
 ghost use Rattle.formula_bounds.specs.Entries.{entry_of_program};
+ghost use Rattle.curves.specs.Grids.{BoundsSecond, grid_at};
 ghost use Rattle.curves.specs.Slices.{AreBoundsOver, AreRight, AreRightOfDerivatives, BoundsView};
 ghost use Rattle.curves.specs.Tables.{IsRow, bounds_in, distances_of, others_of};
 ghost use Rattle.formula_bounds.specs.Written.{AreApproximated, HaveNumbers, IsRight, IsWrittenProgram, numerals_of_program, program_with_inputs};
@@ -53,4 +55,24 @@ pub fn errors_are_bounded<V>()
     ensures rows { (k : Numbers V) → AreOrdered k → (j : JobValue) (program : Trees) (plan : CurvePlan) (inputs a b i : ℕ) (row : Row)
         → IsScoped inputs program → IsRow j program plan a b i row
         → AreRight k (bits_of j.frac) program (others_of j a b) (distances_of j plan.points i) (bounds_in row) }
+{}
+
+/// The column of the grid bounds the second derivative over all ordered exact numbers.
+///
+/// The formula's second derivative is the derivative, in dual numbers, of the program of its derivative. If it exists at
+/// an exact distance that the program rounds down to the row's, its magnitude times 2^-bits is at most the column's bound,
+/// if there is one. The exact formula is any that the bounds of errors are for; each input has an exact number.
+pub fn grid_bounds_second_derivatives<V>()
+    // The program of a formula's derivative, with all definitions, computes the derivative at each distance.
+    ensures derivative { (k : Numbers V) → AreExact k → (bits : ℕ) → ((z : ℤ) → StandsForFraction k bits z)
+        → (inputs : List V) (count : ℕ) (formula : Trees) → IsScoped count formula
+        → IsDerivativeProgram k inputs formula (with_all bits formula) }
+    // The change of a slope by the approximation of its derivative bounds the change by the exact second derivative.
+    ensures second { (k : Numbers V) → AreOrdered k → (bits : ℕ) → ((z : ℤ) → StandsForFraction k bits z)
+        → (count : ℕ) (program slope : Trees) → IsScoped count program → slope_program bits program ≡ Ok slope
+        → (others : List Constant) (z : ℤ) → BoundsSecond k bits program others z (grid_at bits slope others z) }
+    // So does the column of a row that `curve` prints.
+    ensures rows { (k : Numbers V) → AreOrdered k → (j : JobValue) → ((z : ℤ) → StandsForFraction k (bits_of j.frac) z)
+        → (program : Trees) (plan : CurvePlan) (inputs a b i : ℕ) (row : Row) → IsScoped inputs program → IsRow j program plan a b i row
+        → BoundsSecond k (bits_of j.frac) program (others_of j a b) row.distance row.slope_grid }
 {}

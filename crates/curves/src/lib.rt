@@ -14,6 +14,6 @@ mod tables;
 mod writing;
 
 pub use faults::CurveFault;
-pub use laws::errors_are_bounded;
+pub use laws::{errors_are_bounded, grid_bounds_second_derivatives};
 pub use plans::CurvePlan;
 pub use writing::write_curve;
