@@ -1,5 +1,5 @@
 -- The program of a job's slope, and the change of the slope over the grid's spacing.
-use Rattle.std.proofs.Common.{◌≡◌, ◌∙◌, ℕ, ℤ, Bool, true, List, Option, None, Result, Ok, IfOk, if◌then◌else◌, ap, sym}
+use Rattle.std.proofs.Common.{◌≡◌, ◌∙◌, ℕ, ℤ, true, List, Option, Result, Ok, IfOk, sym}
 use Rattle.std.proofs.lemmas.Result.{IfOk-weaker}
 use Rattle.curve_lines.specs.Rows.{has_grid}
 use Rattle.curve_lines.specs.declared.columns.CurveColumns.{CurveColumns}
@@ -27,13 +27,9 @@ slope_made j program k its is =
     (made.0, made.1)
 
 -- the change of the slope, if the columns have the grid
-pub grid_is : {E : Type 0} (r : Result (Option ℕ) E) (j : JobValue) (program : Trees) (columns : CurveColumns) (others others' : List Constant)
-    (distance : ℤ) (f : FormulaView) → IsDerived (bits_of j.frac) program f → has_grid columns ≡ true → others' ≡ others
-    → ((slope : Trees) → f ≡ formula_of slope → IfOk r (λ g. g ≡ grid_at (bits_of j.frac) slope others' distance))
+pub grid_is : {E : Type 0} (r : Result (Option ℕ) E) (j : JobValue) (program : Trees) (columns : CurveColumns) (others : List Constant)
+    (distance : ℤ) (f : FormulaView) → IsDerived (bits_of j.frac) program f → has_grid columns ≡ true
+    → ((slope : Trees) → f ≡ formula_of slope → IfOk r (λ g. g ≡ grid_at (bits_of j.frac) slope others distance))
     → IfOk r (IsGridOf j program columns others distance)
-grid_is r j program columns others others' distance f derived there same at =
-    let slope : Trees = derived.0 in
-    let planned : Bool → Option ℕ = λ b. if b then grid_at (bits_of j.frac) slope others distance else None in
-    IfOk-weaker r _ _
-    (λ g h. (slope, derived.1, h ∙ ap (λ xs. grid_at (bits_of j.frac) slope xs distance) same ∙ sym (ap planned there)))
-    (at slope derived.2)
+grid_is r j program columns others distance f (slope, made, is) there at =
+    IfOk-weaker r _ _ (λ g h. (slope, made, rw there h)) (at slope is)

@@ -1,5 +1,5 @@
 -- Parts of a range while the worst is looked for, and while a range is halved.
-use Rattle.std.proofs.Common.{◌≡◌, ℕ, zero, suc, ◌<◌, ◌≤◌, ◌+◌, ℤ, pos, ◌+ℤ◌, ◌-ℤ◌, ◌≤ℤ◌, ◌<ℤ◌, Bool, true, false, ◌||◌, List, [], ◌∷◌, ◌++◌, length, take, drop, get_or, slice_set, Option, Some, None, slice_get, refl, sym, subst, ap, ◌∙◌, ◌⊎◌, inl, inr, arith}
+use Rattle.std.proofs.Common.{◌≡◌, ℕ, zero, suc, ◌<◌, ◌≤◌, ◌+◌, pos, ◌+ℤ◌, ◌-ℤ◌, ◌≤ℤ◌, ◌<ℤ◌, Bool, true, false, ◌||◌, List, [], ◌∷◌, ◌++◌, length, take, drop, get_or, slice_set, Option, Some, None, slice_get, refl, sym, subst, ap, ◌∙◌, ◌⊎◌, inl, inr, arith}
 use Rattle.std.proofs.lemmas.Bool.{both_ways}
 use Rattle.std.proofs.lemmas.Bool.Decides.{nat_tests}
 use Rattle.std.proofs.lemmas.Int.{by_lt_z, ints}
@@ -11,7 +11,7 @@ use Rattle.interval_domain.specs.Ranges.{Range, range}
 use Rattle.interval_domain.specs.Spans.{AreHalves}
 use Rattle.interval_domain.specs.Views.{span_range}
 use Rattle.interval_domain.specs.declared.span.Span.{Span}
-use Rattle.curves.specs.Slices.{AreHalved, AreOfWorst, AreWorstOver, BoundsView, IsNext, IsToHalve, IsWorst, Part, at_ends, bounds_at, bounds_on, bounds_view, greater_bounds, halved_at, in_column, is_worse, middle, part_on, turn_of}
+use Rattle.curves.specs.Slices.{AreHalved, AreOfWorst, AreWorstOver, BoundsView, IsNext, IsToHalve, IsWorst, Part, at_ends, bounds_at, bounds_view, greater_bounds, halved_at, in_column, is_worse, middle, part_on, turn_of}
 use Rattle.curves.specs.declared.slices.Column.{Column}
 use Rattle.curves.specs.declared.slices.Column.TheVariants.{Energy, Slope}
 
@@ -137,25 +137,6 @@ module _ (column : Column) (parts : List Part) where
     first = w.first;
   }
 
--- ---- the ends of a range
-
--- ranges with equal ends are equal
-same_range : (s t : Span) → s.lo ≡ t.lo → s.hi ≡ t.hi → span_range s ≡ span_range t
-same_range s t e f = ap (λ x. range x s.hi) e ∙ ap (range t.lo) f
-
-module _ (bits : ℕ) (program : Trees) (others : List Constant) where
-  -- the bounds at a single distance
-  pub at_single : (s : Span) (z : ℤ) (b : BoundsView) → s.lo ≡ z → s.hi ≡ z → b ≡ bounds_on bits program others (span_range s)
-      → b ≡ bounds_at bits program others z
-  at_single s z b e f g = g ∙ ap (λ x. bounds_on bits program others (range x s.hi)) e ∙ ap (λ x. bounds_on bits program others (range z x)) f
-
-  -- the greater bounds at both ends
-  pub ends_are : (r s t : Span) (x y b : BoundsView) → s.lo ≡ r.lo → s.hi ≡ r.lo → t.lo ≡ r.hi → t.hi ≡ r.hi
-      → x ≡ bounds_on bits program others (span_range s) → y ≡ bounds_on bits program others (span_range t)
-      → b ≡ greater_bounds x y → b ≡ at_ends bits program others (span_range r)
-  ends_are r s t x y b sl sh tl th ex ey eb =
-      eb ∙ ap (λ z. greater_bounds z y) (at_single s r.lo x sl sh ex) ∙ ap (greater_bounds (bounds_at bits program others r.lo)) (at_single t r.hi y tl th ey)
-
 -- ---- turns
 
 module _ (halvings : ℕ) (parts : List Part) (tried : BoundsView) (turns : Column × Column) (number : Option ℕ) (e : turns ≡ turn_of halvings) where
@@ -253,10 +234,9 @@ module _ (bits : ℕ) (program : Trees) (others : List Constant) where
       (eu ∙ ap (part_on bits program others) (upper_is p.range s l u e h))
 
   -- the bounds at the last distance of the lower half
-  pub last_is : (p : Part) (s l u t : Span) (b : BoundsView) → span_range s ≡ p.range → AreHalves s l u → t.lo ≡ l.hi → t.hi ≡ l.hi
-      → b ≡ bounds_on bits program others (span_range t) → b ≡ bounds_at bits program others (middle p.range)
-  last_is p s l u t b e h el eh eb =
-      at_single bits program others t l.hi b el eh eb ∙ ap (bounds_at bits program others) (h.middle ∙ ap middle e)
+  pub last_is : (p : Part) (s l u : Span) (b : BoundsView) → span_range s ≡ p.range → AreHalves s l u
+      → b ≡ bounds_at bits program others l.hi → b ≡ bounds_at bits program others (middle p.range)
+  last_is p s l u b e h eb = eb ∙ ap (bounds_at bits program others) (h.middle ∙ ap middle e)
 
   -- ---- the halvings of a range
 

@@ -46,11 +46,12 @@ put_some (Ok x) Is text before after is put = (text, is, put)
 put_some (Err Memory) Is text before after is put = put
 put_some (Err (Refused f)) Is text before after is put = (text, is, put)
 
--- no write failed before a success
-pub no_failure : {X : Type 0} (r : Result X (Failure OutFault)) (Is : List ℕ → Type 0) (before after : Output) → PutsSome Is before after r
-    → OnOk r (after.failed ≡ before.failed)
-no_failure (Ok x) Is before after put = put.2.failed
-no_failure (Err e) Is before after put = tt
+-- a text of this kind was put behind none
+pub none_before : {X : Type 0} (r : Result X (Failure OutFault)) (Is : List ℕ → Type 0) (before after : Output)
+    → PutsSome (λ text. (t : List ℕ) × Is t × (text ≡ t)) before after r → PutsSome Is before after r
+none_before (Ok x) Is before after (text, (t, is, same), put) = (text, subst Is (sym same) is, put)
+none_before (Err Memory) Is before after put = put
+none_before (Err (Refused f)) Is before after (text, (t, is, same), put) = (text, subst Is (sym same) is, put)
 
 -- ---- heads of tables
 

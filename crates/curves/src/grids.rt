@@ -1,4 +1,4 @@
-//! The part of a slope's error that no spelling of the formula avoids: that of rounding the distance down.
+//! A bound on the part of a slope's error that no spelling of the formula avoids: that of rounding the distance down.
 ghost use Rattle.std.specs.Prelude.{◌≡◌, ◌≤◌, ◌*◌, ◌^◌, IfOk};
 ghost use Rattle.energy_program.specs.Programs.{Trees};
 ghost use Rattle.fixed.specs.Fractions.{bits_of};
@@ -7,10 +7,10 @@ ghost use Rattle.interval_domain.specs.Views.{span_range};
 ghost use Rattle.error_bounds.specs.Rules.{magnitude};
 ghost use Rattle.curves.specs.Grids as grids;
 
-use crate::slices::inputs_on;
+use crate::slices::PairFormula;
 use error_bounds::Approximation;
-use fixed::{Constant, Frac, Fx};
-use formula_bounds::{Formula, Partial};
+use fixed::{Frac, Fx};
+use formula_bounds::Partial;
 use interval_domain::Span;
 use std::alloc::{AllocError, Allocator};
 
@@ -53,19 +53,16 @@ fn change_of(frac: Frac, derivative: &Partial) -> Option<u64>
     }
 }
 
-/// The most that a slope changes from a distance to one unit above it, in units of 2^-(bits + 8); `None` if the second
-/// derivative has no approximation. `derived` is the formula of the slope.
+/// A bound on the change of a slope from a distance to one unit above it, in units of 2^-(bits + 8); `None` if the second
+/// derivative has no approximation. The formula is the slope's.
 pub(crate) fn grid_at<A: Allocator + Copy>(
-    alloc: A,
-    derived: &Formula<A>,
-    frac: Frac,
-    others: &[Constant],
+    derived: &PairFormula<A>,
     at: Fx,
 ) -> Result<Option<u64>, AllocError>
-    ensures { (slope : Trees) → derived.now ≡ formula_of slope
-        → IfOk result (λ g. g ≡ grids.grid_at (bits_of frac) slope others.now at) }
+    ensures { (slope : Trees) → derived.now.formula.now ≡ formula_of slope
+        → IfOk result (λ g. g ≡ grids.grid_at (bits_of derived.now.frac) slope derived.now.others.now at) }
 {
-    let inputs = inputs_on(alloc, others, Span::single(at))?;
-    let entry = derived.entry(alloc, frac, &inputs)?;
-    Ok(change_of(frac, &entry.slope))
+    let inputs = derived.inputs_on(Span::single(at))?;
+    let entry = derived.formula.entry(derived.alloc, derived.frac, &inputs)?;
+    Ok(change_of(derived.frac, &entry.slope))
 }

@@ -7,9 +7,8 @@ ghost use Rattle.interval_domain.specs.Views.{span_range};
 ghost use Rattle.formula_bounds.specs.Nodes.{formula_of};
 ghost use Rattle.curves.specs.Slices as slices;
 
-use crate::slices::{Bounds, Column, bounds_on, greater_of_each};
-use fixed::{Constant, Frac, Fx};
-use formula_bounds::Formula;
+use crate::slices::{Column, PairFormula};
+use fixed::Fx;
 use interval_domain::Span;
 use std::alloc::{AllocError, Allocator};
 
@@ -72,58 +71,33 @@ fn back_of(range: Span) -> Span
     }
 }
 
-// The bounds at a single distance.
-fn bounds_at<A: Allocator + Copy>(
-    alloc: A,
-    formula: &Formula<A>,
-    frac: Frac,
-    others: &[Constant],
-    at: Fx,
-) -> Result<Bounds, AllocError>
-    ensures { (program : Trees) → formula.now ≡ formula_of program
-        → IfOk result (λ b. b ≡ slices.bounds_at (bits_of frac) program others.now at) }
-{
-    bounds_on(alloc, formula, frac, others, Span::single(at))
-}
+impl<'a, A: Allocator + Copy> PairFormula<'a, A> {
+    // Whether a column's bound on a range is above four times the greatest of the bounds beside it.
+    fn is_local_on(&self, domain: Span, column: Column, range: Span) -> Result<bool, AllocError>
+        ensures { (program : Trees) → self.now.formula.now ≡ formula_of program
+            → IfOk result (λ t. t ≡ slices.is_local_on (bits_of self.now.frac) program self.now.others.now (span_range domain) column
+            (span_range range)) }
+    {
+        let below = down_to(domain.lo, range.lo, BESIDE);
+        let above = up_to(domain.hi, range.hi, BESIDE);
+        let bounds = self.bounds_on(range)?;
+        let beside = self.bounds_at_both(below, above)?;
+        Ok(is_local(bounds.of(column), beside.of(column)))
+    }
 
-// Whether a column's bound on a range is above four times the greatest of the bounds beside it.
-fn is_local_on<A: Allocator + Copy>(
-    alloc: A,
-    formula: &Formula<A>,
-    frac: Frac,
-    others: &[Constant],
-    domain: Span,
-    column: Column,
-    range: Span,
-) -> Result<bool, AllocError>
-    ensures { (program : Trees) → formula.now ≡ formula_of program
-        → IfOk result (λ t. t ≡ slices.is_local_on (bits_of frac) program others.now (span_range domain) column (span_range range)) }
-{
-    let below = down_to(domain.lo, range.lo, BESIDE);
-    let above = up_to(domain.hi, range.hi, BESIDE);
-    let bounds = bounds_on(alloc, formula, frac, others, range)?;
-    let first = bounds_at(alloc, formula, frac, others, below)?;
-    let last = bounds_at(alloc, formula, frac, others, above)?;
-    let beside = greater_of_each(&first, &last);
-    Ok(is_local(bounds.of(column), beside.of(column)))
-}
-
-/// Whether a column jumps in its worst part, which is this range.
-pub(crate) fn jumps_over<A: Allocator + Copy>(
-    alloc: A,
-    formula: &Formula<A>,
-    frac: Frac,
-    others: &[Constant],
-    domain: Span,
-    column: Column,
-    range: Span,
-) -> Result<bool, AllocError>
-    ensures { (program : Trees) → formula.now ≡ formula_of program
-        → IfOk result (λ t. t ≡ slices.jumps_over (bits_of frac) program others.now (span_range domain) column (span_range range)) }
-{
-    let front = front_of(range);
-    let back = back_of(range);
-    let at_front = is_local_on(alloc, formula, frac, others, domain, column, front)?;
-    let at_back = is_local_on(alloc, formula, frac, others, domain, column, back)?;
-    Ok(at_front || at_back)
+    /// Whether a column jumps in its worst part, which is this range.
+    pub(crate) fn jumps_over(
+        &self,
+        domain: Span,
+        column: Column,
+        range: Span,
+    ) -> Result<bool, AllocError>
+        ensures { (program : Trees) → self.now.formula.now ≡ formula_of program
+            → IfOk result (λ t. t ≡ slices.jumps_over (bits_of self.now.frac) program self.now.others.now (span_range domain) column
+            (span_range range)) }
+    {
+        let at_front = self.is_local_on(domain, column, front_of(range))?;
+        let at_back = self.is_local_on(domain, column, back_of(range))?;
+        Ok(at_front || at_back)
+    }
 }

@@ -6,6 +6,7 @@ mod grids;
 mod jumps;
 mod laws;
 mod pairs;
+mod planned;
 mod plans;
 mod potentials;
 mod rows;

@@ -2,23 +2,21 @@
 ghost use Rattle.std.specs.Prelude.{◌≡◌, ◌&&◌, ◌≤◌, ◌<◌, ◌*◌, ◌/◌, ◌++◌, IfOk, length, pos, unsigned_abs, ◌+ℤ◌, ◌-ℤ◌, ◌≤ℤ◌, ◌<ℤ◌};
 ghost use Rattle.std.specs.Int.{int_max};
 ghost use Rattle.fixed.specs.Fractions.{bits_of};
-ghost use Rattle.energy_program.specs.Programs.{trees_of};
 ghost use Rattle.job.specs.Views.{job_value};
 ghost use Rattle.kernel_lanes.specs.Lanes.{IsServed};
 ghost use Rattle.interval_domain.specs.Views.{span_range};
-ghost use Rattle.curves.specs.Potentials.{IsPotentialOf};
 ghost use Rattle.curve_lines.specs.Rows as rows;
 ghost use Rattle.curves.specs.Slices.{AreWorstOver, bounds_view, jumps_over};
+ghost use Rattle.curves.specs.SoFar.{IsPlanned, job_of, program_of};
 ghost use Rattle.curves.specs.Tables.{IsGridOf, IsRow, all_distances, distance_of, distances_of, others_of};
 
 use crate::grids::grid_at;
-use crate::jumps::jumps_over;
 use crate::pairs::Pair;
-use crate::plans::CurvePlan;
-use crate::potentials::Potential;
-use crate::slices::{Column, WorstPart, WorstParts, bounds_over};
-use curve_lines::{CurveColumns, Row, is_large};
+use crate::planned::PlannedTables;
+use crate::slices::{Column, PairFormula, WorstPart, WorstParts};
+use curve_lines::{Row, is_large};
 use fixed::Fx;
+use formula_bounds::Formula;
 use interval_domain::Span;
 use job::Job;
 use kernel_lanes::Query;
@@ -91,128 +89,113 @@ fn all_distances<A: Allocator>(job: &Job<A>) -> Span
     }
 }
 
-// Bounds on the errors of the potential at the distances that row i covers, and the worst parts.
-fn bounds_at<A: Allocator + Copy>(
-    alloc: A,
-    job: &Job<A>,
-    potential: &Potential<A>,
-    pair: &Pair<A>,
-    points: u32,
-    i: u32,
-) -> Result<WorstParts, AllocError>
-    requires some { 1 ≤ points }
-    requires within { i ≤ points }
-    requires is { IsPotentialOf (job_value job.now) potential.now }
-    ensures { IfOk result (λ w. AreWorstOver (bits_of job.now.frac) (trees_of potential.now.slope.energy) pair.now.others.items
-        (distances_of (job_value job.now) points i) (bounds_view w.energy.bound w.slope.bound) (span_range w.energy.range)
-        (span_range w.slope.range)) }
-{
-    let distances = distances_at(job, points, i);
-    bounds_over(alloc, &potential.formula, job.frac, &pair.others, distances)
-}
-
-// Whether the bound of a column's value is large and a jump.
-fn is_jump<A: Allocator + Copy>(
-    alloc: A,
-    job: &Job<A>,
-    potential: &Potential<A>,
-    pair: &Pair<A>,
-    column: Column,
-    value: Fx,
-    worst: WorstPart,
-) -> Result<bool, AllocError>
-    requires is { IsPotentialOf (job_value job.now) potential.now }
-    ensures { IfOk result (λ t. t ≡ (rows.is_large value worst.bound
-        && jumps_over (bits_of job.now.frac) (trees_of potential.now.slope.energy) pair.now.others.items (all_distances (job_value job.now))
-        column (span_range worst.range))) }
-{
-    if is_large(value, worst.bound) {
-        let domain = all_distances(job);
-        let others = &pair.others;
-        jumps_over(
-            alloc,
-            &potential.formula,
-            job.frac,
-            others,
-            domain,
-            column,
-            worst.range,
-        )
-    } else {
-        Ok(false)
+impl<'a, A: Allocator + Copy> PlannedTables<'a, A> {
+    // A formula for a pair.
+    fn formula_of<'b>(&self, formula: &'b Formula<A>, pair: &'b Pair<A>) -> PairFormula<'b, A>
+        ensures formula { result.formula.now ≡ formula.now }
+        ensures frac { result.frac ≡ self.now.job.now.frac }
+        ensures others { result.others.now ≡ pair.now.others.items }
+    {
+        PairFormula {
+            alloc: self.alloc,
+            formula,
+            frac: self.job.frac,
+            others: &pair.others,
+        }
     }
-}
 
-// The change of a pair's slope from a distance to one unit above it, if these columns have the grid.
-fn grid_of<A: Allocator + Copy>(
-    alloc: A,
-    job: &Job<A>,
-    potential: &Potential<A>,
-    pair: &Pair<A>,
-    columns: CurveColumns,
-    distance: Fx,
-) -> Result<Option<u64>, AllocError>
-    requires is { IsPotentialOf (job_value job.now) potential.now }
-    ensures { IfOk result (IsGridOf (job_value job.now) (trees_of potential.now.slope.energy) columns pair.now.others.items distance) }
-{
-    if columns.has_grid() {
-        grid_at(alloc, &potential.derived, job.frac, &pair.others, distance)
-    } else {
-        Ok(None)
+    // Bounds on the errors of the potential at the distances that row i covers, and the worst parts.
+    fn worst_of(&self, pair: &Pair<A>, i: u32) -> Result<WorstParts, AllocError>
+        requires is { IsPlanned self.now }
+        requires within { i ≤ self.now.plan.now.points }
+        ensures { IfOk result (λ w. AreWorstOver (bits_of self.now.job.now.frac) (program_of self.now) pair.now.others.items
+            (distances_of (job_of self.now) self.now.plan.now.points i) (bounds_view w.energy.bound w.slope.bound)
+            (span_range w.energy.range) (span_range w.slope.range)) }
+    {
+        let distances = distances_at(self.job, self.plan.points, i);
+        let formula = self.formula_of(&self.potential.formula, pair);
+        formula.bounds_over(distances)
     }
-}
 
-// The request for a pair's value at a distance.
-fn query_of<A: Allocator>(job: &Job<A>, potential: &Potential<A>, pair: &Pair<A>, r: Fx) -> Query
-    requires is { IsPotentialOf (job_value job.now) potential.now }
-    requires first { pair.now.a < length job.now.types.items }
-    requires second { pair.now.b < length job.now.types.items }
-    requires low { job.now.core ≤ℤ r }
-    requires high { r <ℤ job.now.cutoff }
-    ensures value { result ≡ record { a = pair.now.a; b = pair.now.b; r = r } }
-    ensures energy { IsServed potential.now.energy result }
-    ensures slope { IsServed potential.now.slope.verified result }
-{
-    Query {
-        a: pair.a,
-        b: pair.b,
-        r,
+    // Whether the bound of a column's value is large and a jump.
+    fn is_jump(
+        &self,
+        pair: &Pair<A>,
+        column: Column,
+        value: Fx,
+        worst: WorstPart,
+    ) -> Result<bool, AllocError>
+        requires is { IsPlanned self.now }
+        ensures { IfOk result (λ t. t ≡ (rows.is_large value worst.bound
+            && jumps_over (bits_of self.now.job.now.frac) (program_of self.now) pair.now.others.items (all_distances (job_of self.now))
+            column (span_range worst.range))) }
+    {
+        if is_large(value, worst.bound) {
+            let domain = all_distances(self.job);
+            let formula = self.formula_of(&self.potential.formula, pair);
+            formula.jumps_over(domain, column, worst.range)
+        } else {
+            Ok(false)
+        }
     }
-}
 
-/// Row i of the table of a pair.
-pub(crate) fn row_at<A: Allocator + Copy>(
-    alloc: A,
-    job: &Job<A>,
-    potential: &Potential<A>,
-    pair: &Pair<A>,
-    plan: &CurvePlan,
-    i: u32,
-) -> Result<Row, AllocError>
-    requires within { i ≤ plan.now.points }
-    requires is { IsPotentialOf (job_value job.now) potential.now }
-    requires first { pair.now.a < length job.now.types.items }
-    requires second { pair.now.b < length job.now.types.items }
-    requires others { pair.now.others.items ≡ others_of (job_value job.now) pair.now.a pair.now.b }
-    ensures { IfOk result (IsRow (job_value job.now) (trees_of potential.now.slope.energy) plan.now pair.now.a pair.now.b i) }
-{
-    let worst = bounds_at(alloc, job, potential, pair, plan.points, i)?;
-    let distance = distance_at(job, plan.points, i);
-    let query = query_of(job, potential, pair, distance);
-    let energy = potential.energy_at(job, &query);
-    let slope = potential.slope_at(job, &query);
-    let (first, second) = (worst.energy, worst.slope);
-    let energy_jumps = is_jump(alloc, job, potential, pair, Column::Energy, energy, first)?;
-    let slope_jumps = is_jump(alloc, job, potential, pair, Column::Slope, slope, second)?;
-    let slope_grid = grid_of(alloc, job, potential, pair, plan.columns, distance)?;
-    Ok(Row {
-        distance,
-        energy,
-        energy_error: worst.energy.bound,
-        energy_jumps,
-        slope,
-        slope_error: worst.slope.bound,
-        slope_jumps,
-        slope_grid,
-    })
+    // A bound on the change of a pair's slope from a distance to one unit above it, if the columns have the grid.
+    fn grid_of(&self, pair: &Pair<A>, distance: Fx) -> Result<Option<u64>, AllocError>
+        requires is { IsPlanned self.now }
+        ensures { IfOk result (IsGridOf (job_of self.now) (program_of self.now) self.now.plan.now.columns pair.now.others.items distance) }
+    {
+        if self.plan.columns.has_grid() {
+            let derived = self.formula_of(&self.potential.derived, pair);
+            grid_at(&derived, distance)
+        } else {
+            Ok(None)
+        }
+    }
+
+    // The request for a pair's value at a distance.
+    fn query_of(&self, pair: &Pair<A>, r: Fx) -> Query
+        requires is { IsPlanned self.now }
+        requires first { pair.now.a < length self.now.job.now.types.items }
+        requires second { pair.now.b < length self.now.job.now.types.items }
+        requires low { self.now.job.now.core ≤ℤ r }
+        requires high { r <ℤ self.now.job.now.cutoff }
+        ensures value { result ≡ record { a = pair.now.a; b = pair.now.b; r = r } }
+        ensures energy { IsServed self.now.potential.now.energy result }
+        ensures slope { IsServed self.now.potential.now.slope.verified result }
+    {
+        Query {
+            a: pair.a,
+            b: pair.b,
+            r,
+        }
+    }
+
+    /// Row i of the table of a pair.
+    pub(crate) fn row_at(&self, pair: &Pair<A>, i: u32) -> Result<Row, AllocError>
+        requires is { IsPlanned self.now }
+        requires within { i ≤ self.now.plan.now.points }
+        requires first { pair.now.a < length self.now.job.now.types.items }
+        requires second { pair.now.b < length self.now.job.now.types.items }
+        requires others { pair.now.others.items ≡ others_of (job_of self.now) pair.now.a pair.now.b }
+        ensures { IfOk result (IsRow (job_of self.now) (program_of self.now) self.now.plan.now pair.now.a pair.now.b i) }
+    {
+        let worst = self.worst_of(pair, i)?;
+        let distance = distance_at(self.job, self.plan.points, i);
+        let query = self.query_of(pair, distance);
+        let energy = self.potential.energy_at(self.job, &query);
+        let slope = self.potential.slope_at(self.job, &query);
+        let energy_jumps = self.is_jump(pair, Column::Energy, energy, worst.energy)?;
+        let slope_jumps = self.is_jump(pair, Column::Slope, slope, worst.slope)?;
+        let slope_grid = self.grid_of(pair, distance)?;
+        Ok(Row {
+            distance,
+            energy,
+            energy_error: worst.energy.bound,
+            energy_jumps,
+            slope,
+            slope_error: worst.slope.bound,
+            slope_jumps,
+            slope_grid,
+        })
+    }
 }

@@ -9,7 +9,7 @@ ghost use Rattle.interval_domain.specs.Views.{span_range};
 ghost use Rattle.formula_bounds.specs.Nodes.{formula_of};
 ghost use Rattle.formula_bounds.specs.Walks.{either_if_there, entries_of_program, outcomes_if_there};
 ghost use Rattle.curves.specs.Slices as slices;
-ghost use Rattle.curves.specs.Slices.{AreOfWorst, AreWorstOver, IsNext, IsToHalve, IsWorst, at_ends, bounds_at, bounds_on, halved_at, in_column, middle, part_on};
+ghost use Rattle.curves.specs.Slices.{AreOfWorst, AreWorstOver, IsNext, IsToHalve, IsWorst, bounds_at, bounds_on, halved_at, in_column, middle, part_on};
 ghost use Rattle.curves.specs.declared.slices.Column.TheVariants as column;
 
 use error_bounds::{Approximation, Outcomes};
@@ -140,8 +140,8 @@ fn greater(x: Option<u64>, y: Option<u64>) -> Option<u64>
     }
 }
 
-/// The greater bounds of both columns.
-pub(crate) fn greater_of_each(x: &Bounds, y: &Bounds) -> Bounds
+// The greater bounds of both columns.
+fn greater_of_each(x: &Bounds, y: &Bounds) -> Bounds
     ensures { result ≡ slices.greater_bounds x.now y.now }
 {
     Bounds {
@@ -159,22 +159,6 @@ fn lesser(x: Option<u64>, y: Option<u64>) -> Option<u64>
         (Some(x), None) => Some(x),
         (None, y) => y,
     }
-}
-
-/// The inputs with distances in the range, and the others as they were read.
-pub(crate) fn inputs_on<A: Allocator + Copy>(
-    alloc: A,
-    others: &[Constant],
-    range: Span,
-) -> Result<Vec<Approximation, A>, AllocError>
-    ensures { IfOk result (λ all. all.items ≡ slices.inputs_on others.now (span_range range)) }
-{
-    let mut inputs = Vec::new(alloc);
-    inputs.push(Approximation::distances(range))?;
-    for other in others {
-        inputs.push(Approximation::as_read(*other))?;
-    }
-    Ok(inputs)
 }
 
 // The bounds of an entry.
@@ -233,115 +217,11 @@ fn bound_of_all(column: Column, entries: &[Entry]) -> Option<u64>
     }
 }
 
-// The bounds of one walk over the formula.
-fn plain_bounds<A: Allocator + Copy>(
-    alloc: A,
-    formula: &Formula<A>,
-    frac: Frac,
-    inputs: &[Approximation],
-) -> Result<Bounds, AllocError>
-    ensures { (program : Trees) → formula.now ≡ formula_of program
-        → IfOk result (λ b. b ≡ slices.plain_bounds (bits_of frac) program inputs.now) }
-{
-    Ok(bounds_of(&formula.entry(alloc, frac, inputs)?))
-}
-
-// The lesser of the bounds of one walk, and those of walks that divide. A walk that didn't divide has the bounds of one walk.
-fn least_bounds<A: Allocator + Copy>(
-    alloc: A,
-    formula: &Formula<A>,
-    frac: Frac,
-    inputs: &[Approximation],
-) -> Result<Bounds, AllocError>
-    ensures { (program : Trees) → formula.now ≡ formula_of program
-        → IfOk result (λ b. b ≡ slices.least_bounds (slices.plain_bounds (bits_of frac) program inputs.now)
-        (entries_of_program (bits_of frac) inputs.now program 3)) }
-{
-    let entries = formula.entries_of_walks(alloc, frac, inputs, DIVISIONS)?;
-    if entries.len() == 1 {
-        return Ok(bounds_of(&entries[0]));
-    }
-    let plain = plain_bounds(alloc, formula, frac, inputs)?;
-    if entries.is_empty() {
-        return Ok(plain);
-    }
-    Ok(Bounds {
-        energy: lesser(plain.energy, bound_of_all(Column::Energy, &entries)),
-        slope: lesser(plain.slope, bound_of_all(Column::Slope, &entries)),
-    })
-}
-
-// The bounds of a range that isn't wide. A formula without choices has a single walk.
-fn narrow_bounds<A: Allocator + Copy>(
-    alloc: A,
-    formula: &Formula<A>,
-    frac: Frac,
-    inputs: &[Approximation],
-) -> Result<Bounds, AllocError>
-    ensures { (program : Trees) → formula.now ≡ formula_of program
-        → IfOk result (λ b. b ≡ slices.least_bounds (slices.plain_bounds (bits_of frac) program inputs.now)
-        (entries_of_program (bits_of frac) inputs.now program 3)) }
-{
-    if formula.has_choice() {
-        least_bounds(alloc, formula, frac, inputs)
-    } else {
-        plain_bounds(alloc, formula, frac, inputs)
-    }
-}
-
 // Whether a range with these ends has more than 16 distances.
 fn is_wide(lo: Fx, hi: Fx) -> bool
     ensures { result ≡ slices.is_wide (ranges.range lo hi) }
 {
     16 <= i128::from(hi.raw()) - i128::from(lo.raw())
-}
-
-// The bounds on these inputs, of one walk if the range is wide.
-fn bounds_by<A: Allocator + Copy>(
-    alloc: A,
-    formula: &Formula<A>,
-    frac: Frac,
-    inputs: &[Approximation],
-    wide: bool,
-) -> Result<Bounds, AllocError>
-    ensures { (program : Trees) → formula.now ≡ formula_of program
-        → IfOk result (λ b. b ≡ slices.bounds_by (bits_of frac) program inputs.now wide) }
-{
-    if wide {
-        plain_bounds(alloc, formula, frac, inputs)
-    } else {
-        narrow_bounds(alloc, formula, frac, inputs)
-    }
-}
-
-/// The bounds for all distances in the range.
-pub(crate) fn bounds_on<A: Allocator + Copy>(
-    alloc: A,
-    formula: &Formula<A>,
-    frac: Frac,
-    others: &[Constant],
-    range: Span,
-) -> Result<Bounds, AllocError>
-    ensures { (program : Trees) → formula.now ≡ formula_of program
-        → IfOk result (λ b. b ≡ bounds_on (bits_of frac) program others.now (span_range range)) }
-{
-    let wide = is_wide(range.lo, range.hi);
-    let inputs = inputs_on(alloc, others, range)?;
-    bounds_by(alloc, formula, frac, &inputs, wide)
-}
-
-// A range as a part.
-fn part_on<A: Allocator + Copy>(
-    alloc: A,
-    formula: &Formula<A>,
-    frac: Frac,
-    others: &[Constant],
-    range: Span,
-) -> Result<Part, AllocError>
-    ensures { (program : Trees) → formula.now ≡ formula_of program
-        → IfOk result (λ p. p ≡ part_on (bits_of frac) program others.now (span_range range)) }
-{
-    Ok(Part::new(range, bounds_on(alloc, formula, frac, others, range)?))
 }
 
 // Whether the first bound is worse: it is greater, or there is none.
@@ -440,48 +320,6 @@ fn replace<A: Allocator>(
     Ok(())
 }
 
-// Halves the part with this number. The last distance of the lower half is tried.
-fn halve<A: Allocator + Copy>(
-    alloc: A,
-    formula: &Formula<A>,
-    frac: Frac,
-    others: &[Constant],
-    parts: &mut Vec<Part, A>,
-    tried: Bounds,
-    number: usize,
-) -> Result<Bounds, AllocError>
-    requires there { number < length parts.old.items }
-    requires wide { (p : slices.Part) → slice_get parts.old.items number ≡ Some p → is_zero (p.range.high -ℤ p.range.low) ≡ false }
-    ensures some { IfOk result (λ _. 0 < length parts.new.items) }
-    ensures halved { (program : Trees) → formula.now ≡ formula_of program → IfOk result (λ b. (p : slices.Part)
-        × (slice_get parts.old.items number ≡ Some p)
-        × (parts.new.items ≡ halved_at (bits_of frac) program others.now parts.old.items number p)
-        × (b ≡ slices.greater_bounds tried (bounds_at (bits_of frac) program others.now (middle p.range)))) }
-{
-    let (lower, upper) = halves(parts[number].range());
-    let last = bounds_on(alloc, formula, frac, others, Span::single(lower.hi))?;
-    let lower = part_on(alloc, formula, frac, others, lower)?;
-    let upper = part_on(alloc, formula, frac, others, upper)?;
-    replace(parts, number, lower, upper)?;
-    Ok(greater_of_each(&tried, &last))
-}
-
-// The bounds at both ends of a range, the greater of each column.
-fn at_ends<A: Allocator + Copy>(
-    alloc: A,
-    formula: &Formula<A>,
-    frac: Frac,
-    others: &[Constant],
-    range: Span,
-) -> Result<Bounds, AllocError>
-    ensures { (program : Trees) → formula.now ≡ formula_of program
-        → IfOk result (λ b. b ≡ at_ends (bits_of frac) program others.now (span_range range)) }
-{
-    let first = bounds_on(alloc, formula, frac, others, Span::single(range.lo))?;
-    let last = bounds_on(alloc, formula, frac, others, Span::single(range.hi))?;
-    Ok(greater_of_each(&first, &last))
-}
-
 // The worst part of a column.
 fn worst_of(column: Column, parts: &[Part]) -> WorstPart
     requires { 0 < length parts.now }
@@ -506,29 +344,160 @@ fn worst_parts(parts: &[Part]) -> WorstParts
     }
 }
 
-/// Bounds over a range of distances, which is halved until its bounds are close to those at single distances, and at most
-/// 256 times.
-pub(crate) fn bounds_over<A: Allocator + Copy>(
-    alloc: A,
-    formula: &Formula<A>,
-    frac: Frac,
-    others: &[Constant],
-    range: Span,
-) -> Result<WorstParts, AllocError>
-    ensures { (program : Trees) → formula.now ≡ formula_of program
-        → IfOk result (λ w. AreWorstOver (bits_of frac) program others.now (span_range range)
-        (slices.bounds_view w.energy.bound w.slope.bound) (span_range w.energy.range) (span_range w.slope.range)) }
-{
-    let mut parts = Vec::new(alloc);
-    parts.push(part_on(alloc, formula, frac, others, range)?)?;
-    let mut tried = at_ends(alloc, formula, frac, others, range)?;
-    for halvings in 0..HALVINGS {
-        match next(halvings, &parts, &tried) {
-            Some(number) => {
-                tried = halve(alloc, formula, frac, others, &mut parts, tried, number)?;
-            }
-            None => return Ok(worst_parts(&parts)),
+/// A formula, and the constants that its inputs besides the distance were read as.
+#[derive(Drop)]
+pub(crate) struct PairFormula<'a, A: Allocator> {
+    pub(crate) alloc: A,
+    pub(crate) formula: &'a Formula<A>,
+    pub(crate) frac: Frac,
+    pub(crate) others: &'a [Constant],
+}
+
+impl<'a, A: Allocator + Copy> PairFormula<'a, A> {
+    /// The inputs with distances in the range, and the others as they were read.
+    pub(crate) fn inputs_on(&self, range: Span) -> Result<Vec<Approximation, A>, AllocError>
+        ensures { IfOk result (λ all. all.items ≡ slices.inputs_on self.now.others.now (span_range range)) }
+    {
+        let mut inputs = Vec::new(self.alloc);
+        inputs.push(Approximation::distances(range))?;
+        for other in self.others {
+            inputs.push(Approximation::as_read(*other))?;
+        }
+        Ok(inputs)
+    }
+
+    // The bounds of one walk over the formula.
+    fn plain_bounds(&self, inputs: &[Approximation]) -> Result<Bounds, AllocError>
+        ensures { (program : Trees) → self.now.formula.now ≡ formula_of program
+            → IfOk result (λ b. b ≡ slices.plain_bounds (bits_of self.now.frac) program inputs.now) }
+    {
+        Ok(bounds_of(&self.formula.entry(self.alloc, self.frac, inputs)?))
+    }
+
+    // The lesser of the bounds of one walk, and those of walks that divide. A walk that didn't divide has the bounds of
+    // one walk.
+    fn least_bounds(&self, inputs: &[Approximation]) -> Result<Bounds, AllocError>
+        ensures { (program : Trees) → self.now.formula.now ≡ formula_of program
+            → IfOk result (λ b. b ≡ slices.least_bounds (slices.plain_bounds (bits_of self.now.frac) program inputs.now)
+            (entries_of_program (bits_of self.now.frac) inputs.now program 3)) }
+    {
+        let entries = self
+            .formula
+            .entries_of_walks(self.alloc, self.frac, inputs, DIVISIONS)?;
+        if entries.len() == 1 {
+            return Ok(bounds_of(&entries[0]));
+        }
+        let plain = self.plain_bounds(inputs)?;
+        if entries.is_empty() {
+            return Ok(plain);
+        }
+        Ok(Bounds {
+            energy: lesser(plain.energy, bound_of_all(Column::Energy, &entries)),
+            slope: lesser(plain.slope, bound_of_all(Column::Slope, &entries)),
+        })
+    }
+
+    // The bounds of a range that isn't wide. A formula without choices has a single walk.
+    fn narrow_bounds(&self, inputs: &[Approximation]) -> Result<Bounds, AllocError>
+        ensures { (program : Trees) → self.now.formula.now ≡ formula_of program
+            → IfOk result (λ b. b ≡ slices.least_bounds (slices.plain_bounds (bits_of self.now.frac) program inputs.now)
+            (entries_of_program (bits_of self.now.frac) inputs.now program 3)) }
+    {
+        if self.formula.has_choice() {
+            self.least_bounds(inputs)
+        } else {
+            self.plain_bounds(inputs)
         }
     }
-    Ok(worst_parts(&parts))
+
+    // The bounds on these inputs, of one walk if the range is wide.
+    fn bounds_by(&self, inputs: &[Approximation], wide: bool) -> Result<Bounds, AllocError>
+        ensures { (program : Trees) → self.now.formula.now ≡ formula_of program
+            → IfOk result (λ b. b ≡ slices.bounds_by (bits_of self.now.frac) program inputs.now wide) }
+    {
+        if wide {
+            self.plain_bounds(inputs)
+        } else {
+            self.narrow_bounds(inputs)
+        }
+    }
+
+    /// The bounds for all distances in the range.
+    pub(crate) fn bounds_on(&self, range: Span) -> Result<Bounds, AllocError>
+        ensures { (program : Trees) → self.now.formula.now ≡ formula_of program
+            → IfOk result (λ b. b ≡ bounds_on (bits_of self.now.frac) program self.now.others.now (span_range range)) }
+    {
+        let wide = is_wide(range.lo, range.hi);
+        let inputs = self.inputs_on(range)?;
+        self.bounds_by(&inputs, wide)
+    }
+
+    /// The bounds at a single distance.
+    pub(crate) fn bounds_at(&self, at: Fx) -> Result<Bounds, AllocError>
+        ensures { (program : Trees) → self.now.formula.now ≡ formula_of program
+            → IfOk result (λ b. b ≡ bounds_at (bits_of self.now.frac) program self.now.others.now at) }
+    {
+        self.bounds_on(Span::single(at))
+    }
+
+    /// The bounds at two distances, the greater of each column.
+    pub(crate) fn bounds_at_both(&self, low: Fx, high: Fx) -> Result<Bounds, AllocError>
+        ensures { (program : Trees) → self.now.formula.now ≡ formula_of program
+            → IfOk result (λ b. b ≡ slices.greater_bounds (bounds_at (bits_of self.now.frac) program self.now.others.now low)
+            (bounds_at (bits_of self.now.frac) program self.now.others.now high)) }
+    {
+        let first = self.bounds_at(low)?;
+        let last = self.bounds_at(high)?;
+        Ok(greater_of_each(&first, &last))
+    }
+
+    // A range as a part.
+    fn part_on(&self, range: Span) -> Result<Part, AllocError>
+        ensures { (program : Trees) → self.now.formula.now ≡ formula_of program
+            → IfOk result (λ p. p ≡ part_on (bits_of self.now.frac) program self.now.others.now (span_range range)) }
+    {
+        Ok(Part::new(range, self.bounds_on(range)?))
+    }
+
+    // Halves the part with this number. The last distance of the lower half is tried.
+    fn halve(
+        &self,
+        parts: &mut Vec<Part, A>,
+        tried: Bounds,
+        number: usize,
+    ) -> Result<Bounds, AllocError>
+        requires there { number < length parts.old.items }
+        requires wide { (p : slices.Part) → slice_get parts.old.items number ≡ Some p → is_zero (p.range.high -ℤ p.range.low) ≡ false }
+        ensures some { IfOk result (λ _. 0 < length parts.new.items) }
+        ensures halved { (program : Trees) → self.now.formula.now ≡ formula_of program → IfOk result (λ b. (p : slices.Part)
+            × (slice_get parts.old.items number ≡ Some p)
+            × (parts.new.items ≡ halved_at (bits_of self.now.frac) program self.now.others.now parts.old.items number p)
+            × (b ≡ slices.greater_bounds tried (bounds_at (bits_of self.now.frac) program self.now.others.now (middle p.range)))) }
+    {
+        let (lower, upper) = halves(parts[number].range());
+        let last = self.bounds_at(lower.hi)?;
+        let lower = self.part_on(lower)?;
+        let upper = self.part_on(upper)?;
+        replace(parts, number, lower, upper)?;
+        Ok(greater_of_each(&tried, &last))
+    }
+
+    /// Bounds over a range of distances, which is halved until its bounds are close to those at single distances, and at
+    /// most 256 times.
+    pub(crate) fn bounds_over(&self, range: Span) -> Result<WorstParts, AllocError>
+        ensures { (program : Trees) → self.now.formula.now ≡ formula_of program
+            → IfOk result (λ w. AreWorstOver (bits_of self.now.frac) program self.now.others.now (span_range range)
+            (slices.bounds_view w.energy.bound w.slope.bound) (span_range w.energy.range) (span_range w.slope.range)) }
+    {
+        let mut parts = Vec::new(self.alloc);
+        parts.push(self.part_on(range)?)?;
+        let mut tried = self.bounds_at_both(range.lo, range.hi)?;
+        for halvings in 0..HALVINGS {
+            match next(halvings, &parts, &tried) {
+                Some(number) => tried = self.halve(&mut parts, tried, number)?,
+                None => return Ok(worst_parts(&parts)),
+            }
+        }
+        Ok(worst_parts(&parts))
+    }
 }

@@ -1,17 +1,13 @@
 //! Tables of pairs of types: the lines of their heads, and the texts of their bodies.
 ghost use Rattle.std.specs.Prelude.{◌≡◌, ◌<◌, ◌≤◌, ◌+◌, ◌++◌, ℕ, IfOk, IfErr, OnOk, length};
-ghost use Rattle.energy_program.specs.Programs.{trees_of};
 ghost use Rattle.job.specs.Views.{job_value};
 ghost use Rattle.line_text.specs.Names.{name_text};
 ghost use Rattle.potential.specs.Tables.{name_of_type};
-ghost use Rattle.curves.specs.Potentials.{IsPotentialOf};
-ghost use Rattle.curves.specs.SoFar.{HasBody};
+ghost use Rattle.curves.specs.SoFar.{HasBody, IsPlanned, job_of, program_of};
 ghost use Rattle.curves.specs.Tables.{IsTableBody, columns_text, names_text, others_of, pair_line, separator};
 
 use crate::pairs::Pair;
-use crate::plans::CurvePlan;
-use crate::potentials::Potential;
-use crate::rows::row_at;
+use crate::planned::PlannedTables;
 use curve_lines::{Body, CurveColumns};
 use job::Job;
 use line_text::Name;
@@ -20,32 +16,6 @@ use verifier::Progress;
 
 /// The text between two tables: two empty lines.
 pub(crate) const BETWEEN_TABLES: &[u8] = b"\n\n";
-
-// The body of the table of a pair. Reports each row.
-fn body_of<A: Allocator + Copy, W: Progress>(
-    alloc: A,
-    job: &Job<A>,
-    potential: &Potential<A>,
-    pair: &Pair<A>,
-    plan: &CurvePlan,
-    watch: &mut W,
-) -> Result<Body<A>, AllocError>
-    requires is { IsPotentialOf (job_value job.now) potential.now }
-    requires first { pair.now.a < length job.now.types.items }
-    requires second { pair.now.b < length job.now.types.items }
-    requires others { pair.now.others.items ≡ others_of (job_value job.now) pair.now.a pair.now.b }
-    ensures body { IfOk result (HasBody (job_value job.now) (trees_of potential.now.slope.energy) plan.now pair.now.a pair.now.b) }
-    ensures passed { OnOk result (W.passed watch.old watch.new (plan.now.points + 1)) }
-    ensures stopped { IfErr result (λ _. (n : ℕ) × (n ≤ plan.now.points + 1) × W.passed watch.old watch.new n) }
-{
-    let mut body = Body::new(alloc, job.frac, plan.columns);
-    for i in 0..plan.points + 1 {
-        let row = row_at(alloc, job, potential, pair, plan, i)?;
-        body.add(&row)?;
-        watch.pass(1);
-    }
-    Ok(body)
-}
 
 // Appends the line of the names of the types.
 fn put_names<A: Allocator>(
@@ -87,29 +57,6 @@ fn name_of<A: Allocator>(job: &Job<A>, number: u32) -> Name
     job.types[number as usize].name
 }
 
-/// The text of the body of the table of two types. Reports each row.
-pub(crate) fn body_text<A: Allocator + Copy, W: Progress>(
-    alloc: A,
-    job: &Job<A>,
-    potential: &Potential<A>,
-    plan: &CurvePlan,
-    a: u32,
-    b: u32,
-    watch: &mut W,
-) -> Result<Vec<u8, A>, AllocError>
-    requires is { IsPotentialOf (job_value job.now) potential.now }
-    requires first { a < length job.now.types.items }
-    requires second { b < length job.now.types.items }
-    ensures body { IfOk result (λ text. IsTableBody (job_value job.now) (trees_of potential.now.slope.energy) plan.now a b
-        text.items) }
-    ensures passed { OnOk result (W.passed watch.old watch.new (plan.now.points + 1)) }
-    ensures stopped { IfErr result (λ _. (n : ℕ) × (n ≤ plan.now.points + 1) × W.passed watch.old watch.new n) }
-{
-    let pair = Pair::new(alloc, job, a, b)?;
-    let body = body_of(alloc, job, potential, &pair, plan, watch)?;
-    body.into_text()
-}
-
 /// Appends the line of the names of the types with these numbers.
 pub(crate) fn put_pair<A: Allocator>(
     text: &mut Vec<u8, A>,
@@ -131,22 +78,56 @@ pub(crate) fn separator_of(a: u32) -> &'static [u8]
     if a == 0 { b"" } else { BETWEEN_TABLES }
 }
 
-/// The lines before the body of the table of two types, behind another text.
-pub(crate) fn head_of<A: Allocator>(
-    alloc: A,
-    job: &Job<A>,
-    plan: &CurvePlan,
-    before: &[u8],
-    a: u32,
-    b: u32,
-) -> Result<Vec<u8, A>, AllocError>
-    requires first { a < length job.now.types.items }
-    requires second { b < length job.now.types.items }
-    ensures { IfOk result (λ head. head.items ≡ before.now ++ (pair_line (job_value job.now) a b ++ columns_text plan.now.columns)) }
-{
-    let mut head = Vec::new(alloc);
-    head.extend_from_slice(before)?;
-    put_pair(&mut head, job, a, b)?;
-    head.extend_from_slice(column_names(plan.columns))?;
-    Ok(head)
+impl<'a, A: Allocator + Copy> PlannedTables<'a, A> {
+    // The body of the table of a pair. Reports each row.
+    fn body_of<W: Progress>(&self, pair: &Pair<A>, watch: &mut W) -> Result<Body<A>, AllocError>
+        requires is { IsPlanned self.now }
+        requires first { pair.now.a < length self.now.job.now.types.items }
+        requires second { pair.now.b < length self.now.job.now.types.items }
+        requires others { pair.now.others.items ≡ others_of (job_of self.now) pair.now.a pair.now.b }
+        ensures body { IfOk result (HasBody (job_of self.now) (program_of self.now) self.now.plan.now pair.now.a pair.now.b) }
+        ensures passed { OnOk result (W.passed watch.old watch.new (self.now.plan.now.points + 1)) }
+        ensures stopped { IfErr result (λ _. (n : ℕ) × (n ≤ self.now.plan.now.points + 1) × W.passed watch.old watch.new n) }
+    {
+        let mut body = Body::new(self.alloc, self.job.frac, self.plan.columns);
+        for i in 0..self.plan.points + 1 {
+            let row = self.row_at(pair, i)?;
+            body.add(&row)?;
+            watch.pass(1);
+        }
+        Ok(body)
+    }
+
+    /// The text of the body of the table of two types. Reports each row.
+    pub(crate) fn body_text<W: Progress>(
+        &self,
+        a: u32,
+        b: u32,
+        watch: &mut W,
+    ) -> Result<Vec<u8, A>, AllocError>
+        requires is { IsPlanned self.now }
+        requires first { a < length self.now.job.now.types.items }
+        requires second { b < length self.now.job.now.types.items }
+        ensures body { IfOk result (λ text. IsTableBody (job_of self.now) (program_of self.now) self.now.plan.now a b text.items) }
+        ensures passed { OnOk result (W.passed watch.old watch.new (self.now.plan.now.points + 1)) }
+        ensures stopped { IfErr result (λ _. (n : ℕ) × (n ≤ self.now.plan.now.points + 1) × W.passed watch.old watch.new n) }
+    {
+        let pair = Pair::new(self.alloc, self.job, a, b)?;
+        let body = self.body_of(&pair, watch)?;
+        body.into_text()
+    }
+
+    /// The lines before the body of the table of two types, behind another text.
+    pub(crate) fn head_of(&self, before: &[u8], a: u32, b: u32) -> Result<Vec<u8, A>, AllocError>
+        requires first { a < length self.now.job.now.types.items }
+        requires second { b < length self.now.job.now.types.items }
+        ensures { IfOk result (λ head. head.items
+            ≡ before.now ++ (pair_line (job_of self.now) a b ++ columns_text self.now.plan.now.columns)) }
+    {
+        let mut head = Vec::new(self.alloc);
+        head.extend_from_slice(before)?;
+        put_pair(&mut head, self.job, a, b)?;
+        head.extend_from_slice(column_names(self.plan.columns))?;
+        Ok(head)
+    }
 }
