@@ -21,7 +21,8 @@ pub enum CurveColumns {
 }
 
 impl CurveColumns {
-    /// Whether the last column is the grid's: the part of the slope's error that no spelling of the formula avoids.
+    /// Whether the last column is the grid's: a bound on the part of the slope's error that no spelling of the formula
+    /// avoids.
     pub fn has_grid(self) -> bool
         ensures { result ≡ rows.has_grid self }
     {

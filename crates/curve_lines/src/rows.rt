@@ -25,8 +25,8 @@ pub struct Row {
     pub slope_error: Option<u64>,
     /// Whether the slope's bound is large because the slope jumps.
     pub slope_jumps: bool,
-    /// The part of the slope's error that no spelling of the formula avoids, in units of 2^-(bits + 8); `None` if none
-    /// is found, or if the table has no column for it.
+    /// A bound on the part of the slope's error that no spelling of the formula avoids, in units of 2^-(bits + 8); `None`
+    /// if none is found, or if the table has no column for it.
     pub slope_grid: Option<u64>,
 }
 

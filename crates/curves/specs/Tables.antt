@@ -70,8 +70,8 @@ IsGridOf j program columns others distance grid = (slope : Trees) × (slope_prog
 
 -- Row i of the rows from 0 to n for the types a and b: the values of the energy and of its slope, as the program
 -- computes them, at the row's distance, and bounds on their errors at all distances that the row covers. Of a large bound
--- the row has whether it is a jump. If the plan has the grid, the row has the part of the slope's error that no spelling of
--- the formula avoids.
+-- the row has whether it is a jump. If the plan has the grid, the row has a bound on the part of the slope's error that no
+-- spelling of the formula avoids.
 pub record IsRow (j : JobValue) (program : Trees) (plan : CurvePlan) (a b i : ℕ) (row : Row) : Type 0 where
   pub distance : row.distance ≡ distance_of j plan.points i
   pub energy : value_of (bits_of j.frac) (inputs_of (table_of j) a b row.distance) (substituted program.0 program.1) ≡ Some row.energy
