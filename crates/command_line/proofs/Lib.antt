@@ -2,3 +2,4 @@ pub mod CommandLineLaws
 pub mod OneCommand
 pub mod CountLaws
 pub mod PartLaws
+pub mod SyntaxLaws

@@ -1,7 +1,7 @@
 -- Parts and step counters. A text writes at most one: a numeral has no slash (47), so the slash separates two numerals.
-use Rattle.std.proofs.Common.{◌≡◌, ◌≢◌, ◌∙◌, ◌<◌, ℕ, ℤ, List, [], ◌∷◌, ◌++◌, MatchOption, Option, Some, None, ap, arith, drop, get_or, length, refl, subst, suc, sym, zero}
+use Rattle.std.proofs.Common.{◌≡◌, ◌≢◌, ◌∙◌, ◌≤◌, ◌<◌, ◌^◌, ℕ, ℤ, List, [], ◌∷◌, ◌++◌, MatchOption, Option, Some, None, ap, arith, drop, get_or, length, refl, subst, suc, sym, zero}
 use Rattle.std.proofs.lemmas.Str.Parse.{digit_from_value}
-use Rattle.std.proofs.lemmas.Str.Pattern.{IsSplitOnceResult, split_after}
+use Rattle.std.proofs.lemmas.Str.Pattern.{IsSplitOnceResult, split_after, split_parts}
 use Rattle.std.specs.Borrow.{Bor}
 use Rattle.std.specs.Str.Parse.{AllDigits, digits_value, signed_digits_value}
 use Rattle.clap.specs.Words.{Row, Text, first_of}
@@ -80,6 +80,21 @@ pub part_texts : (text : Text) (halves : Bor Text × Bor Text) (part : ℕ × �
 part_texts text halves part cut w =
     let same = split_after 47 text w.number w.all (Some halves) cut (omega arith) w.text' (no_slash w.number w.part'.0.1) in
     (subst (λ t. WritesPlain t part.0) (sym same.0) w.part', subst (λ t. WritesPlain t part.1) (sym same.1) w.parts)
+
+-- two numerals around the first slash write a part
+pub writes_part : (text : Text) (halves : Bor Text × Bor Text) (part parts : ℕ) → IsSplitOnceResult 47 text (Some halves)
+    → WritesPlain halves.0.now part → WritesPlain halves.1.now parts → 1 ≤ part → part ≤ parts → parts < 2 ^ 64
+    → WritesPart text (part, parts)
+writes_part text halves part parts cut first second some within fits = record {
+  number = halves.0.now;
+  all = halves.1.now;
+  text' = (split_parts 47 text (Some halves) cut (omega arith)).0;
+  part' = first;
+  parts = second;
+  some = some;
+  within = within;
+  fits = fits;
+}
 
 -- a numeral without a sign writes one number
 pub plain_once : (text : Text) (n m : ℕ) → WritesPlain text n → WritesPlain text m → n ≡ m

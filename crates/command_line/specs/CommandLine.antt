@@ -38,59 +38,38 @@ values_rule name = record (new_rule name) { action = Some Append }
 abbrev pub option_rule : Text → Rule
 option_rule name = record (new_rule name) { long = Some name; value_names = 1 }
 
--- an option whose value is a number in this range
-abbrev pub number_rule : Text → (least most : ℕ) → Rule
-number_rule name least most = record (option_rule name) { parser = Some (Unsigned least most) }
+-- an option whose value is a number in this range, with this default
+abbrev pub number_rule : (name default : Text) → (least most : ℕ) → Rule
+number_rule name default least most =
+    record (option_rule name) { defaults = default ∷ []; parser = Some (Unsigned least most) }
 
--- `--frame k`, from 1; the default is 1
-abbrev pub frame_rule : Rule
-frame_rule = record (new_rule (codes "frame")) {
-  long = Some (codes "frame");
-  value_names = 1;
-  defaults = codes "1" ∷ [];
-  parser = Some (Unsigned 1 18446744073709551615);
-}
-
--- `--steps n` or `-n n`. The parser takes any text for n; `WritesSteps` says which texts are numbers of steps.
-abbrev pub steps_rule : Rule
-steps_rule = record (new_rule (codes "steps")) {
-  long = Some (codes "steps");
-  short = Some 110;
-  required = true;
-  value_names = 1;
-}
-
--- `--workers w` or `-w w`, from 1 to 64; the default is 1
-abbrev pub workers_rule : Rule
-workers_rule = record (new_rule (codes "workers")) {
-  long = Some (codes "workers");
-  short = Some 119;
-  value_names = 1;
-  defaults = codes "1" ∷ [];
-  parser = Some (Unsigned 1 64);
-}
-
--- `--every k` or `-k k`, with any text for k
-abbrev pub every_rule : Rule
-every_rule = record (new_rule (codes "every")) {
-  long = Some (codes "every");
-  short = Some 107;
-  required = true;
-  value_names = 1;
-}
+-- an option with this letter as a second name, which must be given
+abbrev pub required_rule : Text → (letter : ℕ) → Rule
+required_rule name letter = record (option_rule name) { short = Some letter; required = true }
 
 -- an option that needs a value, with this default instead
 abbrev pub with_default : Rule → Text → Rule
 with_default rule text = record rule { required = false; defaults = text ∷ [] }
 
+-- `--frame k`, from 1; the default is 1
+abbrev pub frame_rule : Rule
+frame_rule = number_rule (codes "frame") (codes "1") 1 18446744073709551615
+
+-- `--steps n` or `-n n`. The parser takes any text for n; `WritesSteps` says which texts are numbers of steps.
+abbrev pub steps_rule : Rule
+steps_rule = required_rule (codes "steps") 110
+
+-- `--every k` or `-k k`, with any text for k
+abbrev pub every_rule : Rule
+every_rule = required_rule (codes "every") 107
+
+-- `--workers w` or `-w w`, from 1 to 64; the default is 1
+abbrev pub workers_rule : Rule
+workers_rule = record (number_rule (codes "workers") (codes "1") 1 64) { short = Some 119 }
+
 -- `--points n`, from 1 to 1,000,000; the default is 100
 abbrev pub points_rule : Rule
-points_rule = record (new_rule (codes "points")) {
-  long = Some (codes "points");
-  value_names = 1;
-  defaults = codes "100" ∷ [];
-  parser = Some (Unsigned 1 1000000);
-}
+points_rule = number_rule (codes "points") (codes "100") 1 1000000
 
 -- an option whose value is a step counter, a signed number of 64 bits, with this default
 abbrev pub counter_rule : (name default : Text) → Rule
@@ -121,17 +100,11 @@ each_job_rule = option_rule (codes "each")
 
 -- `--types A B`, which has two values and need not be given
 abbrev pub types_rule : Rule
-types_rule = record (new_rule (codes "types")) {
-  long = Some (codes "types");
-  value_names = 2;
-}
+types_rule = record (option_rule (codes "types")) { value_names = 2 }
 
 -- `--code LISTING`, which need not be given
 abbrev pub code_rule : Rule
-code_rule = record (new_rule (codes "code")) {
-  long = Some (codes "code");
-  value_names = 1;
-}
+code_rule = option_rule (codes "code")
 
 -- a command with these arguments in addition
 abbrev pub taking : App → List Rule → App

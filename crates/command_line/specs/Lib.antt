@@ -1,3 +1,4 @@
 pub mod CommandLine
 pub mod Commands
+pub mod Syntax
 pub mod Views

@@ -1,167 +1,245 @@
-//! The arguments of the program's commands, as the parser builds them.
+//! The arguments of the program's commands, and the values that the parser takes for them.
 
-ghost use Rattle.std.specs.Prelude.{codes};
+ghost use Rattle.command_line.specs.CommandLine.{IsArgument};
+ghost use Rattle.command_line.specs.Syntax.{defaulted_rule, lettered, optional_rule, ranged, rule_of_argument};
 ghost use Rattle.clap.specs.Words.{Rule};
-ghost use Rattle.command_line.specs.CommandLine.{IsArgument, code_rule, counter_rule, each_job_rule, every_rule, flag_rule, frame_rule, from_rule, number_rule, operand_rule, option_rule, part_rule, points_rule, steps_rule, to_rule, types_rule, values_rule, with_default, workers_rule};
 
 use crate::commands::{MAX_POINTS, MAX_WORKERS};
 use clap::builder::ValueParser;
 use clap::{Arg, ArgAction};
 use std::alloc::Global;
 
-/// A required argument without a name in front: an operand.
-pub(crate) fn operand<'a>(alloc: Global, name: &'a str, help: &'a str) -> Arg<'a>
-    ensures { IsArgument result (operand_rule name.entry.now) }
-{
-    Arg::new(alloc, name).required(true).help(help)
+/// An argument: its name, its form and its help.
+pub(crate) type Argument<'a> = (&'a str, Form<'a>, &'a str);
+
+/// How an argument is given.
+#[derive(Clone, Copy)]
+pub(crate) enum Form<'a> {
+    /// An operand, which has no name in front, and must be given.
+    Operand,
+    /// An operand that may be given any number of times, or not at all.
+    Operands,
+    /// A flag: an option without a value.
+    Flag,
+    /// An option with values of these names, which may be left out.
+    Optional(&'a [&'a str]),
+    /// An option with a letter and a value of this name, which must be given.
+    Required(char, &'a [&'a str]),
+    /// An option with a value, which may be left out.
+    Defaulted(Defaulted<'a>),
 }
 
-/// An operand that may be given any number of times, or not at all.
-pub(crate) fn operands<'a>(alloc: Global, name: &'a str, help: &'a str) -> Arg<'a>
-    ensures { IsArgument result (values_rule name.entry.now) }
-{
-    Arg::new(alloc, name).action(ArgAction::Append).help(help)
+/// An option with a default value.
+#[derive(Clone, Copy)]
+pub(crate) struct Defaulted<'a> {
+    /// Its letter, if it has one.
+    letter: Option<char>,
+    /// The name of its value.
+    value: &'a [&'a str],
+    /// The value if the option isn't given.
+    default: &'a str,
+    /// Which values the parser accepts.
+    range: Range,
 }
 
-/// An option: an argument that is given after its name.
-pub(crate) fn option<'a>(alloc: Global, name: &'a str, value: &'a str) -> Arg<'a>
-    ensures { IsArgument result (option_rule name.entry.now) }
-{
-    Arg::new(alloc, name).long(name).value_name(value)
+/// Which values of an option the parser accepts.
+#[derive(Clone, Copy)]
+pub(crate) enum Range {
+    /// Any text.
+    Text,
+    /// Numbers without a sign.
+    Number { least: u64, most: u64 },
+    /// Step counters: signed numbers of 64 bits. The help doesn't show the default.
+    Counter,
 }
 
-/// An option whose value is a number in this range.
-pub(crate) fn number<'a>(
-    alloc: Global,
-    name: &'a str,
-    value: &'a str,
-    least: u64,
-    most: u64,
-) -> Arg<'a>
-    ensures { IsArgument result (number_rule name.entry.now least most) }
+pub(crate) const JOB: Argument<'static> = (
+    "JOB",
+    Form::Operand,
+    "Job file: energy, core, cutoff, time step, atom types",
+);
+
+pub(crate) const STATE: Argument<'static> = (
+    "STATE",
+    Form::Operand,
+    "State file, as 'start' or 'run' prints it",
+);
+
+pub(crate) const STATES: Argument<'static> = (
+    "STATES",
+    Form::Operand,
+    "Stream of states, as 'states' prints them",
+);
+
+pub(crate) const FRAME: Argument<'static> = (
+    "frame",
+    Form::Defaulted(Defaulted {
+        letter: None,
+        value: &["k"],
+        default: "1",
+        range: Range::Number {
+            least: 1,
+            most: u64::MAX,
+        },
+    }),
+    "Number of the frame in the GRO file, from 1",
+);
+
+pub(crate) const STEPS: Argument<'static> = (
+    "steps",
+    Form::Required('n', &["n"]),
+    "Number of steps, from 0 to 1000000000000",
+);
+
+/// `--steps` of `observe`.
+pub(crate) const STEPS_OR_NONE: Argument<'static> = (
+    "steps",
+    Form::Defaulted(Defaulted {
+        letter: Some('n'),
+        value: &["n"],
+        default: "0",
+        range: Range::Text,
+    }),
+    "Number of steps, from 0 to 1000000000000",
+);
+
+pub(crate) const EVERY: Argument<'static> = (
+    "every",
+    Form::Required('k', &["k"]),
+    "Interval between outputs, in steps, from 1 to 1000000000000",
+);
+
+/// `--every` of `observe`.
+pub(crate) const EVERY_OR_ONE: Argument<'static> = (
+    "every",
+    Form::Defaulted(Defaulted {
+        letter: Some('k'),
+        value: &["k"],
+        default: "1",
+        range: Range::Text,
+    }),
+    "Interval between outputs, in steps, from 1 to 1000000000000",
+);
+
+pub(crate) const WORKERS: Argument<'static> = (
+    "workers",
+    Form::Defaulted(Defaulted {
+        letter: Some('w'),
+        value: &["w"],
+        default: "1",
+        range: Range::Number {
+            least: 1,
+            most: MAX_WORKERS,
+        },
+    }),
+    "Number of threads, from 1 to 64",
+);
+
+pub(crate) const PROGRESS: Argument<'static> = (
+    "progress",
+    Form::Flag,
+    "Report progress on standard error",
+);
+
+pub(crate) const BACK: Argument<'static> = ("back", Form::Flag, "Step backwards");
+
+pub(crate) const FROM: Argument<'static> = (
+    "from",
+    Form::Defaulted(Defaulted {
+        letter: None,
+        value: &["s"],
+        default: "-9223372036854775808",
+        range: Range::Counter,
+    }),
+    "Replay only between states whose counter is at least s, as --from=-500",
+);
+
+pub(crate) const TO: Argument<'static> = (
+    "to",
+    Form::Defaulted(Defaulted {
+        letter: None,
+        value: &["s"],
+        default: "9223372036854775807",
+        range: Range::Counter,
+    }),
+    "Replay only between states whose counter is at most s",
+);
+
+pub(crate) const PART: Argument<'static> = (
+    "part",
+    Form::Defaulted(Defaulted {
+        letter: None,
+        value: &["i/n"],
+        default: "1/1",
+        range: Range::Text,
+    }),
+    "Replay only segments i, i + n, i + 2n, .. of the stream, with i from 1 to n",
+);
+
+pub(crate) const POINTS: Argument<'static> = (
+    "points",
+    Form::Defaulted(Defaulted {
+        letter: None,
+        value: &["n"],
+        default: "100",
+        range: Range::Number {
+            least: 1,
+            most: MAX_POINTS,
+        },
+    }),
+    "Number of rows after the first, from 1 to 1000000",
+);
+
+/// The argument as the parser takes it.
+pub(crate) fn made<'a>(alloc: Global, argument: &Argument<'a>) -> Arg<'a>
+    ensures { IsArgument result (rule_of_argument argument.now) }
 {
-    option(alloc, name, value).value_parser(ValueParser::unsigned(least, most))
+    let (name, form, help) = *argument;
+    let arg = match form {
+        Form::Operand => Arg::new(alloc, name).required(true),
+        Form::Operands => Arg::new(alloc, name).action(ArgAction::Append),
+        Form::Flag => Arg::new(alloc, name).long(name).action(ArgAction::SetTrue),
+        Form::Optional(values) => option(alloc, name, values),
+        Form::Required(letter, value) => option(alloc, name, value).short(letter).required(true),
+        Form::Defaulted(option) => option_with_default(alloc, name, &option),
+    };
+    arg.help(help)
 }
 
-/// An option that needs a value, with this default instead.
-pub(crate) fn with_default<'a>(arg: Arg<'a>, text: &'a str) -> Arg<'a>
-    ensures { (rule : Rule) → IsArgument arg.entry rule → IsArgument result (with_default rule text.entry.now) }
+/// An option with values of these names.
+fn option<'a>(alloc: Global, name: &'a str, values: &'a [&'a str]) -> Arg<'a>
+    ensures { IsArgument result (optional_rule name.entry.now values.entry.now) }
 {
-    arg.required(false).default_value(text)
+    Arg::new(alloc, name).long(name).value_names(values)
 }
 
-pub(crate) fn frame_number<'a>(alloc: Global) -> Arg<'a>
-    ensures { IsArgument result frame_rule }
+/// An option with a default value.
+fn option_with_default<'a>(alloc: Global, name: &'a str, given: &Defaulted<'a>) -> Arg<'a>
+    ensures { IsArgument result (defaulted_rule name.entry.now given.now) }
 {
-    number(alloc, "frame", "k", 1, u64::MAX)
-        .default_value("1")
-        .help("Number of the frame in the GRO file, from 1")
+    let arg = option(alloc, name, given.value).default_value(given.default);
+    in_range(with_letter(arg, given.letter), given.range)
 }
 
-pub(crate) fn code<'a>(alloc: Global) -> Arg<'a>
-    ensures { IsArgument result code_rule }
+/// An option that may also be given by this letter.
+fn with_letter<'a>(arg: Arg<'a>, letter: Option<char>) -> Arg<'a>
+    ensures { (rule : Rule) → IsArgument arg.entry rule → IsArgument result (lettered rule letter) }
 {
-    option(alloc, "code", "LISTING").help("Listing to verify instead of the job's own code")
+    match letter {
+        Some(letter) => arg.short(letter),
+        None => arg,
+    }
 }
 
-pub(crate) fn steps<'a>(alloc: Global) -> Arg<'a>
-    ensures { IsArgument result steps_rule }
+/// An option whose value is in this range.
+fn in_range<'a>(arg: Arg<'a>, range: Range) -> Arg<'a>
+    ensures { (rule : Rule) → IsArgument arg.entry rule → IsArgument result (ranged rule range) }
 {
-    option(alloc, "steps", "n")
-        .short('n')
-        .required(true)
-        .help("Number of steps, from 0 to 1000000000000")
-}
-
-pub(crate) fn every<'a>(alloc: Global) -> Arg<'a>
-    ensures { IsArgument result every_rule }
-{
-    option(alloc, "every", "k").short('k').required(true).help(
-        "Interval between outputs, in steps, from 1 to 1000000000000",
-    )
-}
-
-/// A flag: an option without a value.
-pub(crate) fn flag<'a>(alloc: Global, name: &'a str, help: &'a str) -> Arg<'a>
-    ensures { IsArgument result (flag_rule name.entry.now) }
-{
-    Arg::new(alloc, name)
-        .long(name)
-        .action(ArgAction::SetTrue)
-        .help(help)
-}
-
-pub(crate) fn progress<'a>(alloc: Global) -> Arg<'a>
-    ensures { IsArgument result (flag_rule (codes "progress")) }
-{
-    flag(alloc, "progress", "Report progress on standard error")
-}
-
-/// `--each` of `frame`, whose value is the path of a job.
-pub(crate) fn each_job<'a>(alloc: Global) -> Arg<'a>
-    ensures { IsArgument result each_job_rule }
-{
-    option(alloc, "each", "JOB").help(
-        "Print a frame of each state of STATE, with its time under JOB",
-    )
-}
-
-pub(crate) fn workers<'a>(alloc: Global) -> Arg<'a>
-    ensures { IsArgument result workers_rule }
-{
-    number(alloc, "workers", "w", 1, MAX_WORKERS)
-        .short('w')
-        .default_value("1")
-        .help("Number of threads, from 1 to 64")
-}
-
-/// An option whose value is a step counter: a signed number of 64 bits. The help doesn't show the default.
-fn counter<'a>(alloc: Global, name: &'a str, default: &'a str) -> Arg<'a>
-    ensures { IsArgument result (counter_rule name.entry.now default.entry.now) }
-{
-    option(alloc, name, "s")
-        .value_parser(ValueParser::signed(i64::MIN, i64::MAX))
-        .default_value(default)
-        .hide_default_value(true)
-}
-
-pub(crate) fn from<'a>(alloc: Global) -> Arg<'a>
-    ensures { IsArgument result from_rule }
-{
-    counter(alloc, "from", "-9223372036854775808").help(
-        "Replay only between states whose counter is at least s, as --from=-500",
-    )
-}
-
-pub(crate) fn to<'a>(alloc: Global) -> Arg<'a>
-    ensures { IsArgument result to_rule }
-{
-    counter(alloc, "to", "9223372036854775807").help(
-        "Replay only between states whose counter is at most s",
-    )
-}
-
-pub(crate) fn part<'a>(alloc: Global) -> Arg<'a>
-    ensures { IsArgument result part_rule }
-{
-    option(alloc, "part", "i/n").default_value("1/1").help(
-        "Replay only segments i, i + n, i + 2n, .. of the stream, with i from 1 to n",
-    )
-}
-
-pub(crate) fn points<'a>(alloc: Global) -> Arg<'a>
-    ensures { IsArgument result points_rule }
-{
-    number(alloc, "points", "n", 1, MAX_POINTS)
-        .default_value("100")
-        .help("Number of rows after the first, from 1 to 1000000")
-}
-
-pub(crate) fn types<'a>(alloc: Global) -> Arg<'a>
-    ensures { IsArgument result types_rule }
-{
-    Arg::new(alloc, "types")
-        .long("types")
-        .value_names(&["A", "B"])
-        .help("Print only the table of types A and B; A is of the atom with the lower index")
+    match range {
+        Range::Text => arg,
+        Range::Number { least, most } => arg.value_parser(ValueParser::unsigned(least, most)),
+        Range::Counter => arg
+            .value_parser(ValueParser::signed(i64::MIN, i64::MAX))
+            .hide_default_value(true),
+    }
 }

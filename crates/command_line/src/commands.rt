@@ -226,7 +226,8 @@ pub struct Curve<'a> {
     pub energy: bool,
     /// Whether `--slope` is given.
     pub slope: bool,
-    /// Whether `--grid` is given: the table has the part of the slope's error that no spelling of the formula avoids.
+    /// Whether `--grid` is given: the table also has a bound on the part of the slope's error that comes from rounding the
+    /// distance.
     pub grid: bool,
     /// The names of the two types whose table is printed, with the type of the atom with the lower index first.
     /// Without names, the table of each pair of types is printed.

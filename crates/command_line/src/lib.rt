@@ -7,6 +7,7 @@ mod misuses;
 mod parsing;
 mod parts;
 mod step_counts;
+mod syntax;
 mod values;
 
 pub use commands::{

@@ -1,6 +1,6 @@
 -- the numerals of a part are the texts before and after the first slash
 use Rattle.std.proofs.Common.{◌≡◌, arith, inl, inr}
-use Rattle.command_line.proofs.PartLaws.{no_part, part_texts, plain_once}
+use Rattle.command_line.proofs.PartLaws.{no_part, part_texts, plain_once, writes_part}
 use Rattle.command_line.proofs.parts.part_of_all.Goals as goal
 
 pub returns-in_err-part : goal.returns-in_err-part
@@ -34,3 +34,9 @@ returns-else-part-ge1 c =
       | inl past ↦ let over = past.1 in omega (arith, first, second, within, over)
       | inr below ↦ omega (arith, first, some, below)
     ]
+
+pub returns-then-part-parts : goal.returns-then-part-parts
+returns-then-part-parts c =
+    let halves = c.in_ok-part in
+    writes_part c.args.text.now (halves.part, halves.parts) _ _ halves.ensures.cases c.in_ok-part-2.ensures c.in_ok-parts.ensures
+    c.if-part-ge1.true c.if-part-parts.true (omega arith)
