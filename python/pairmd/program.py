@@ -315,7 +315,7 @@ def curve(
     job: JobInput, points: Count = 100, types: tuple[str, str] | None = None, *, grid: bool = False, program: Named = None
 ) -> list[Curve]:
     """Returns the potential of each pair of types, or of one pair, with proved bounds on its errors. With `grid` rows have
-    the part of the slope's error that no spelling of the formula avoids.
+    a bound on the part of the slope's error that comes from rounding the distance.
     """
     with files(job) as paths:
         options = [*(["--types", *types] if types else []), *(["--grid"] if grid else [])]

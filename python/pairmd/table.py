@@ -255,8 +255,8 @@ def read_steps(source: Source) -> Iterator[tuple[int, str]]:
 @dataclass(frozen=True)
 class CurveRow:
     """A row of a potential: the distance in nm, energy in kJ/mol and slope dU/dr in kJ/mol/nm as printed, and the
-    bounds on their errors as printed; with `--grid` also the part of the slope's error that no spelling of the formula
-    avoids. A bound is None if the program found none, and a column that isn't printed is None.
+    bounds on their errors as printed; with `--grid` also a bound on the part of the slope's error that comes from
+    rounding the distance. A bound is None if the program found none, and a column that isn't printed is None.
     """
 
     r: Decimal

@@ -182,7 +182,7 @@ Help is printed on standard output, and the exit status is 0.
         --points <n>     Number of rows after the first, from 1 to 1000000 [default: 100]
         --energy         Print only the energy and its error
         --slope          Print only the slope and its error
-        --grid           Print also the part of the slope's error that no spelling of the formula avoids
+        --grid           Print also a bound on the part of the slope's error that comes from rounding the distance
         --types <A> <B>  Print only the table of types A and B; A is of the atom with the lower index
         --progress       Report progress on standard error
     -h, --help           Print help
