@@ -1,5 +1,6 @@
 pub mod Tests
 pub mod IntegerProducts
+pub mod CornerLaws
 pub mod Integers
 pub mod RangeLaws
 pub mod Between

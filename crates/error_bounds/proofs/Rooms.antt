@@ -1,13 +1,32 @@
 -- Products of ranges that the rules find moderate are at most 2^116, and 128 bits hold their sums.
-use Rattle.std.proofs.Common.{◌≡◌, ℕ, ◌+◌, ◌*◌, ◌^◌, ◌≤◌, pos, true, lit≤, arith, leb-true}
+use Rattle.std.proofs.Common.{◌≡◌, ℕ, ◌+◌, ◌*◌, ◌^◌, ◌≤◌, ◌≤ℤ◌, pos, neg_ℤ, int_le, true, lit≤, arith, leb-true, le-leb}
+use Rattle.std.proofs.lemmas.Bool.{and_parts}
+use Rattle.std.proofs.lemmas.Int.{ints}
+use Rattle.std.proofs.lemmas.Nat.{mul-le}
 use Rattle.error_bounds.specs.Approximations.{Approximation, exact_range}
-use Rattle.error_bounds.specs.Rules.{are_moderate, magnitude}
+use Rattle.error_bounds.specs.Rules.{are_moderate, is_small, magnitude}
 use Rattle.interval_domain.specs.Ranges.{IsWithin, Range, scaled, times}
 use Rattle.interval_domain.proofs.RangeLemmas.{less_small, scaled_small, times_small, within_more}
 
 -- a range is within its magnitude
 within_magnitude : (x : Range) → IsWithin (magnitude x) x
 within_magnitude x = record { low = omega arith; high = omega arith }
+
+-- small errors are within 2^62
+pub small_within : (e : Range) → e.low ≤ℤ e.high → is_small e ≡ true → IsWithin (2 ^ 62) e
+small_within e h s =
+    let p = and_parts (int_le (neg_ℤ (pos (2 ^ 62))) e.low) (int_le e.high (pos (2 ^ 62))) s in
+    let l = p.0 in
+    let u = p.1 in
+    record { low = omega (arith, ints, l, u, h); high = omega (arith, ints, l, u, h) }
+
+-- products with numbers within 2^53 are moderate
+pub slight_moderate : (x y : Range) → IsWithin (2 ^ 63) x → IsWithin (2 ^ 53) y → are_moderate x y ≡ true
+slight_moderate x y p q =
+    let a : magnitude x ≤ 2 ^ 63 = omega (arith, p.low, p.high) in
+    let b : magnitude y ≤ 2 ^ 53 = omega (arith, q.low, q.high) in
+    let c = mul-le (magnitude x) (magnitude y) (2 ^ 63) (2 ^ 53) a b in
+    le-leb (magnitude x * magnitude y) (2 ^ 116) (omega (arith, c))
 
 -- products of two ranges are within 2^116 if the rules find them moderate
 moderate_small : (x y : Range) → are_moderate x y ≡ true → IsWithin (2 ^ 116) (times x y)

@@ -1,5 +1,5 @@
 //! Approximations: the range of the values that the program computes, and the range of their errors.
-ghost use Rattle.std.specs.Prelude.{◌≡◌, ◌^◌, Some};
+ghost use Rattle.std.specs.Prelude.{◌≡◌, ◌^◌, Some, true};
 ghost use Rattle.error_bounds.specs.Approximations.{exact_range};
 ghost use Rattle.interval_domain.specs.Ranges.{IsWithin};
 ghost use Rattle.error_bounds.specs.Rules as rules;
@@ -17,7 +17,7 @@ const LARGEST: i128 = 0x4000_0000_0000_0000;
 #[derive(Drop)]
 pub struct Approximation {
     computed: Span,
-    error: Ends,
+    error: Span,
 }
 
 impl Model for Approximation {
@@ -27,11 +27,11 @@ impl Model for Approximation {
     ghost Value = { a.Approximation };
 
     ghost use Rattle.interval_domain.specs.Ranges.{IsWithin};
-    ghost use Rattle.interval_domain.specs.Views.{range_of, span_range};
+    ghost use Rattle.interval_domain.specs.Views.{span_range};
 
-    ghost view = { λ p. a.approximation (span_range p.computed) (range_of p.error) };
+    ghost view = { λ p. a.approximation (span_range p.computed) (span_range p.error) };
 
-    ghost invariant = { λ p. IsWithin (2 ^ 62) (range_of p.error) };
+    ghost invariant = { λ p. IsWithin (2 ^ 62) (span_range p.error) };
 }
 
 impl Approximation {
@@ -41,7 +41,7 @@ impl Approximation {
     {
         Approximation {
             computed: Span::single(z),
-            error: Ends { low: 0, high: 0 },
+            error: Span::single(Fx::from_raw(0)),
         }
     }
 
@@ -61,7 +61,10 @@ impl Approximation {
     {
         Approximation {
             computed: range,
-            error: Ends { low: -256, high: 0 },
+            error: Span {
+                lo: Fx::from_raw(-256),
+                hi: Fx::from_raw(0),
+            },
         }
     }
 
@@ -86,7 +89,7 @@ impl Approximation {
     pub fn error_bound(&self) -> u64
         ensures { result ≡ magnitude self.now.error }
     {
-        magnitude(self.error) as u64
+        magnitude(self.errors()) as u64
     }
 
     // The raw values that may be computed, as ends.
@@ -102,7 +105,7 @@ impl Approximation {
         ensures value { range_of result ≡ self.now.error }
         ensures bound { IsWithin (2 ^ 62) (range_of result) }
     {
-        self.error
+        ends_of(self.error)
     }
 
     // The exact values, in error units.
@@ -115,18 +118,16 @@ impl Approximation {
 }
 
 // The error of reading a constant, which is between its two bounds.
-fn error_of_reading(constant: Constant) -> Ends
-    ensures value { range_of result ≡ rules.error_of_reading constant }
-    ensures bound { IsWithin (2 ^ 62) (range_of result) }
+fn error_of_reading(constant: Constant) -> Span
+    ensures value { span_range result ≡ rules.error_of_reading constant }
+    ensures bound { IsWithin (2 ^ 62) (span_range result) }
 {
-    let (low, high) = (i128::from(constant.low), i128::from(constant.high));
-    if low <= high {
-        Ends { low, high }
+    let low = Fx::from_raw(i64::from(constant.low));
+    let high = Fx::from_raw(i64::from(constant.high));
+    if low.raw() <= high.raw() {
+        Span { lo: low, hi: high }
     } else {
-        Ends {
-            low: high,
-            high: low,
-        }
+        Span { lo: high, hi: low }
     }
 }
 
@@ -144,11 +145,24 @@ fn is_small(error: Ends) -> bool
     -LARGEST <= error.low && error.high <= LARGEST
 }
 
+// Errors that are small, which 64 bits hold.
+fn narrowed(error: Ends) -> Span
+    requires { is_small (range_of error) ≡ true }
+    ensures value { span_range result ≡ range_of error }
+    ensures bound { IsWithin (2 ^ 62) (span_range result) }
+{
+    Span {
+        lo: Fx::from_raw(error.low as i64),
+        hi: Fx::from_raw(error.high as i64),
+    }
+}
+
 /// The approximation with these computed values and these errors, if the errors are small.
 pub(crate) fn bounded(computed: Span, error: Ends) -> Option<Approximation>
     ensures { result ≡ within_limits (span_range computed) (Some (range_of error)) }
 {
     if is_small(error) {
+        let error = narrowed(error);
         Some(Approximation { computed, error })
     } else {
         None

@@ -8,6 +8,7 @@
 
 mod approximations;
 mod choices;
+mod corners;
 mod flats;
 mod laws;
 mod operations;
@@ -16,6 +17,7 @@ mod outcomes;
 mod powers;
 mod products;
 mod quotients;
+mod results;
 mod roots;
 
 pub use approximations::Approximation;

@@ -10,9 +10,10 @@ use crate::flats::{apart, flats_of};
 use crate::order::{absolute_error, maximum_error, minimum_error};
 use crate::products::product_errors;
 use crate::quotients::quotient_errors;
+use crate::results::{operator_results, unary_results};
 use crate::roots::root_error;
 use fixed::{Frac, Function, Operator, UnaryOperator};
-use interval_domain::{Ends, Span, less, negated, operator_span, plus, unary_span};
+use interval_domain::{Ends, Span, less, negated, plus};
 
 // The errors of an operator's results, which are in the interval `c`; `None` if there is no bound.
 fn operator_errors(
@@ -45,7 +46,7 @@ pub fn operate(
 ) -> Option<Approximation>
     ensures { result ≡ operator_rule (bits_of frac) operator x.now y.now }
 {
-    let computed = operator_span(frac, operator, x.computed(), y.computed()).ok()?;
+    let computed = operator_results(frac, operator, x.computed(), y.computed()).ok()?;
     let errors = operator_errors(frac, operator, x, y, &computed)?;
     bounded(computed, errors)
 }
@@ -71,7 +72,7 @@ fn unary_errors(frac: Frac, operator: UnaryOperator, x: &Approximation, c: &Span
 pub fn apply(frac: Frac, operator: UnaryOperator, x: &Approximation) -> Option<Approximation>
     ensures { result ≡ unary_rule (bits_of frac) operator x.now }
 {
-    let computed = unary_span(frac, operator, x.computed()).ok()?;
+    let computed = unary_results(frac, operator, x.computed()).ok()?;
     let errors = unary_errors(frac, operator, x, &computed)?;
     bounded(computed, errors)
 }

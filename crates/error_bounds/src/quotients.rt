@@ -9,9 +9,10 @@ ghost use Rattle.error_bounds.specs.Rules.{are_moderate, quotient_error, quotien
 ghost use Rattle.interval_domain.specs.Views.{range_of, span_range};
 
 use crate::approximations::Approximation;
+use crate::corners::{products, quotients};
 use crate::products::{are_moderate, rounded_down};
 use fixed::Frac;
-use interval_domain::{Ends, Span, has_zero, less, quotients, scaled, times};
+use interval_domain::{Ends, Span, has_zero, less, scaled};
 
 // The range up to one unit above the interval.
 fn up_to_next(q: Span) -> Ends
@@ -45,7 +46,7 @@ fn products_with_errors(q: Span, y: &Approximation) -> Ends
     ensures value { range_of result ≡ times (up_to_next (span_range q)) y.now.error }
     ensures bound { IsWithin (2 ^ 116) (range_of result) }
 {
-    times(up_to_next(q), y.errors())
+    products(up_to_next(q), y.errors())
 }
 
 // `(x - X) - q (y - Y)`, for quotients `q` in the interval and up to one unit above it.

@@ -3,8 +3,8 @@ use Rattle.interval_domain.proofs.RangeLemmas.{within_more, within_same}
 use Rattle.error_bounds.proofs.Rooms.{same_exact_moderate}
 use Rattle.error_bounds.proofs.products.exact_times_errors.Goals as goal
 
-pub times-requires : goal.times-requires
-times-requires c =
+pub products-requires : goal.products-requires
+products-requires c =
     let t =
     same_exact_moderate c.args.x.now _ _ _ c.exact.ensures.value c.errors.ensures.value c.requires.values c.requires.errors
     in
@@ -12,5 +12,5 @@ times-requires c =
 
 pub returns-clause-bound : goal.returns-clause-bound
 returns-clause-bound c =
-    within_same (2 ^ 125) _ _ c.times.ensures
+    within_same (2 ^ 125) _ _ c.products.ensures
     (same_exact_moderate c.args.x.now _ _ _ c.exact.ensures.value c.errors.ensures.value c.requires.values c.requires.errors)

@@ -3,11 +3,11 @@ use Rattle.interval_domain.proofs.RangeLemmas.{within_more, within_same}
 use Rattle.error_bounds.proofs.Rooms.{same_moderate}
 use Rattle.error_bounds.proofs.quotients.products_with_errors.Goals as goal
 
-pub times-requires : goal.times-requires
-times-requires c =
+pub products-requires : goal.products-requires
+products-requires c =
     let t = same_moderate _ _ _ _ c.up_to_next.ensures.value c.errors.ensures.value c.requires in
     within_more (2 ^ 116) (2 ^ 127 - 1) _ (lit≤ tt) t
 
 pub returns-clause-bound : goal.returns-clause-bound
 returns-clause-bound c =
-    within_same (2 ^ 116) _ _ c.times.ensures (same_moderate _ _ _ _ c.up_to_next.ensures.value c.errors.ensures.value c.requires)
+    within_same (2 ^ 116) _ _ c.products.ensures (same_moderate _ _ _ _ c.up_to_next.ensures.value c.errors.ensures.value c.requires)
