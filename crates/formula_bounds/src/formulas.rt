@@ -16,7 +16,7 @@ use crate::partial::Partial;
 use crate::walks::{Walk, define_all, tops, walk_all};
 use energy_program::{Expr, Program};
 use error_bounds::Approximation;
-use fixed::Frac;
+use fixed::{Frac, Operator};
 use std::alloc::{AllocError, Allocator};
 use std::marker::Model;
 
@@ -53,6 +53,32 @@ fn known_at(known: &[Entry], number: usize) -> Entry
     }
 }
 
+// The entry of an operation, whose parts are on top of the stack, which are removed. It isn't inlined, since each call
+// of `entry_of` would set up the memory of its parts.
+#[inline(never)]
+fn binary_of<A: Allocator>(frac: Frac, operator: Operator, stack: &mut Vec<Entry, A>) -> Entry
+    ensures { result ∷ reverse stack.new.items
+        ≡ e.binary (bits_of frac) operator (at_depth (reverse stack.old.items) 1) (at_depth (reverse stack.old.items) 0)
+        ∷ drop 2 (reverse stack.old.items) }
+{
+    let second = popped(stack);
+    let first = popped(stack);
+    Entry::binary(frac, operator, &first, &second)
+}
+
+// The entry of a choice, whose parts are on top of the stack, which are removed. It isn't inlined either.
+#[inline(never)]
+fn select_of<A: Allocator>(frac: Frac, stack: &mut Vec<Entry, A>) -> Entry
+    ensures { result ∷ reverse stack.new.items
+        ≡ e.select (bits_of frac) (at_depth (reverse stack.old.items) 2) (at_depth (reverse stack.old.items) 1)
+        (at_depth (reverse stack.old.items) 0) ∷ drop 3 (reverse stack.old.items) }
+{
+    let otherwise = popped(stack);
+    let chosen = popped(stack);
+    let condition = popped(stack);
+    Entry::select(frac, &condition, &chosen, &otherwise)
+}
+
 /// The entry of a node, whose parts are on top of the stack, which are removed.
 pub(crate) fn entry_of<A: Allocator>(
     frac: Frac,
@@ -69,19 +95,10 @@ pub(crate) fn entry_of<A: Allocator>(
         Node::Input(number) => Entry::input(frac, number, input_at(inputs, number as usize)),
         Node::Definition(number) => known_at(known, number as usize),
         Node::Negated => Entry::negated(frac, &popped(stack)),
-        Node::Binary(operator) => {
-            let second = popped(stack);
-            let first = popped(stack);
-            Entry::binary(frac, operator, &first, &second)
-        }
+        Node::Binary(operator) => binary_of(frac, operator, stack),
         Node::Applied(function) => Entry::applied(frac, function, &popped(stack)),
         Node::Power(exponent) => Entry::power(frac, &popped(stack), exponent),
-        Node::Select => {
-            let otherwise = popped(stack);
-            let chosen = popped(stack);
-            let condition = popped(stack);
-            Entry::select(frac, &condition, &chosen, &otherwise)
-        }
+        Node::Select => select_of(frac, stack),
     }
 }
 

@@ -73,8 +73,8 @@ pub(crate) fn append_nodes<A: Allocator + Copy>(
     Ok(())
 }
 
-/// Whether an operator is a choice: a minimum or a maximum.
-pub(crate) fn is_choice_of_two(operator: Operator) -> bool
+// Whether an operator is a choice: a minimum or a maximum.
+fn is_choice_of_two(operator: Operator) -> bool
     ensures { result ≡ is_choice_of_two operator }
 {
     match operator {
@@ -93,8 +93,8 @@ fn is_choice_of_one(function: Function) -> bool
     }
 }
 
-// Whether a node is a choice: a minimum, a maximum, an absolute value or a select.
-fn is_choice(node: Node) -> bool
+/// Whether a node is a choice: a minimum, a maximum, an absolute value or a select.
+pub(crate) fn is_choice(node: Node) -> bool
     ensures { result ≡ is_choice node }
 {
     match node {

@@ -8,7 +8,7 @@ ghost use Rattle.formula_bounds.specs.Entries as e;
 
 use crate::entries::{Entry, branches_of_one, branches_of_select, branches_of_two};
 use crate::formulas::{entry_of, popped};
-use crate::nodes::{Node, is_choice_of_two};
+use crate::nodes::{Node, is_choice};
 use error_bounds::Approximation;
 use fixed::Frac;
 use std::alloc::{AllocError, Allocator};
@@ -59,11 +59,7 @@ fn branches_at(frac: Frac, node: Node, stack: &[Entry]) -> Option<(Entry, Entry)
 {
     match node {
         Node::Binary(operator) => {
-            if is_choice_of_two(operator) {
-                branches_of_two(frac, operator, &at_depth(stack, 1), &at_depth(stack, 0))
-            } else {
-                None
-            }
+            branches_of_two(frac, operator, &at_depth(stack, 1), &at_depth(stack, 0))
         }
         Node::Applied(function) => branches_of_one(frac, function, &at_depth(stack, 0)),
         Node::Select => branches_of_select(
@@ -181,22 +177,42 @@ impl<A: Allocator + Copy> Walk<A> {
         Ok(())
     }
 
+    // Goes on by a choice. The result is the other walk, if the walk divides. It isn't inlined, since other nodes would
+    // set up the memory of the branches.
+    #[inline(never)]
+    fn step_by_choice(
+        &mut self,
+        alloc: A,
+        frac: Frac,
+        inputs: &[Approximation],
+        node: &Node,
+    ) -> Result<Option<Walk<A>>, AllocError>
+        ensures { IfOk result (λ other. after_node_of (bits_of frac) inputs.now node.now self.old ≡ self.new ∷ nodes.if_there other) }
+    {
+        match self.branches(frac, *node) {
+            Some((first, second)) => Ok(Some(self.divide(alloc, *node, first, second)?)),
+            None => {
+                self.go_on(frac, inputs, *node)?;
+                Ok(None)
+            }
+        }
+    }
+
     // Goes on by a node. The result is the other walk, if the walk divides.
     fn step(
         &mut self,
         alloc: A,
         frac: Frac,
         inputs: &[Approximation],
-        node: Node,
+        node: &Node,
     ) -> Result<Option<Walk<A>>, AllocError>
-        ensures { IfOk result (λ other. after_node_of (bits_of frac) inputs.now node self.old ≡ self.new ∷ nodes.if_there other) }
+        ensures { IfOk result (λ other. after_node_of (bits_of frac) inputs.now node.now self.old ≡ self.new ∷ nodes.if_there other) }
     {
-        match self.branches(frac, node) {
-            Some((first, second)) => Ok(Some(self.divide(alloc, node, first, second)?)),
-            None => {
-                self.go_on(frac, inputs, node)?;
-                Ok(None)
-            }
+        if is_choice(*node) {
+            self.step_by_choice(alloc, frac, inputs, node)
+        } else {
+            self.go_on(frac, inputs, *node)?;
+            Ok(None)
         }
     }
 }
@@ -224,11 +240,11 @@ fn step_at<A: Allocator + Copy>(
     inputs: &[Approximation],
     walks: &mut Vec<Walk<A>, A>,
     number: usize,
-    node: Node,
+    node: &Node,
 ) -> Result<(), AllocError>
     requires { number < length walks.old.items }
     ensures { (w : nodes.Walk) → slice_get walks.old.items number ≡ Some w → IfOk result (λ _. walks.new.items
-        ≡ take number walks.old.items ++ (after_node_of (bits_of frac) inputs.now node w ++ drop (number + 1) walks.old.items)) }
+        ≡ take number walks.old.items ++ (after_node_of (bits_of frac) inputs.now node.now w ++ drop (number + 1) walks.old.items)) }
 {
     let other = walks[number].step(alloc, frac, inputs, node)?;
     insert_after(walks, number, other)?;
@@ -246,7 +262,7 @@ fn step_all<A: Allocator + Copy>(
     ensures { IfOk result (λ _. walks.new.items ≡ flat_map (after_node_of (bits_of frac) inputs.now node.now) walks.old.items) }
 {
     for number in (0..walks.len()).rev() {
-        step_at(alloc, frac, inputs, walks, number, *node)?;
+        step_at(alloc, frac, inputs, walks, number, node)?;
     }
     Ok(())
 }
