@@ -43,47 +43,36 @@ of_step bits (negsuc n) = (λ e. absurd (cc), λ e. omega (arith, ints))
 abbrev pub Chooses : (computed first second : Option ℤ) → ℤ → Type 0
 Chooses computed first second s = (is_zero s ≡ false → computed ≡ first) × (is_zero s ≡ true → computed ≡ second)
 
+-- n is a if c - d isn't negative, else b: it is chosen by the step of c - d
+chosen_by_step : (bits : ℕ) (a b c d n s : ℤ) → (pos 0 ≤ℤ (c -ℤ d) → n ≡ a) → ((c -ℤ d) ≤ℤ negsuc 0 → n ≡ b)
+    → v.step bits (v.difference (Some c) (Some d)) ≡ Some s → Chooses (Some n) (Some a) (Some b) s
+chosen_by_step bits a b c d n s first second e = by_result (difference_of c d) refl e
+  where
+    by_result : (r : Result ℤ Fault) → difference_of c d ≡ r → v.step bits (v.number_of r) ≡ Some s → Chooses (Some n) (Some a) (Some b) s
+    by_result (Err fault) er es = absurd (none-some s es)
+    by_result (Ok t) er es =
+        let same : c -ℤ d ≡ t = number_is (c -ℤ d) t er in
+        let step : step_of bits t ≡ s = same_Some (step_of bits t) s es in (
+          λ u. let up = (of_step bits t).0 (ap is_zero step ∙ u) in ap (λ (m : ℤ). Some m) (first (subst (λ m. pos 0 ≤ℤ m) (sym same) up)),
+          λ u.
+              let down = (of_step bits t).1 (ap is_zero step ∙ u) in ap (λ (m : ℤ). Some m) (second (subst (λ m. m ≤ℤ negsuc 0) (sym same) down)),
+        )
+
 -- a minimum chooses by the step of the second operand less the first
 pub minimum_chooses : (bits : ℕ) (z w : Option ℤ) (s : ℤ) → v.step bits (v.difference w z) ≡ Some s
     → Chooses (v.operation bits op.Minimum z w) z w s
 minimum_chooses bits z None s e = absurd (none-some s e)
 minimum_chooses bits None (Some b) s e = absurd (none-some s e)
-minimum_chooses bits (Some a) (Some b) s e = by_result (difference_of b a) refl e
-  where
-    by_result : (r : Result ℤ Fault) → difference_of b a ≡ r → v.step bits (v.number_of r) ≡ Some s
-        → Chooses (v.operation bits op.Minimum (Some a) (Some b)) (Some a) (Some b) s
-    by_result (Err fault) er es = absurd (none-some s es)
-    by_result (Ok d) er es =
-        let same : b -ℤ a ≡ d = number_is (b -ℤ a) d er in
-        let step : step_of bits d ≡ s = same_Some (step_of bits d) s es in (
-          λ t.
-              let up : pos 0 ≤ℤ d = (of_step bits d).0 (ap is_zero step ∙ t) in
-              let least : int_min a b ≡ a = omega (arith, ints, clamps, same, up) in ap (λ (n : ℤ). Some n) least,
-          λ t.
-              let down : d ≤ℤ negsuc 0 = (of_step bits d).1 (ap is_zero step ∙ t) in
-              let least : int_min a b ≡ b = omega (arith, ints, clamps, same, down) in ap (λ (n : ℤ). Some n) least,
-        )
+minimum_chooses bits (Some a) (Some b) s e =
+    chosen_by_step bits a b b a (int_min a b) s (λ up. omega (arith, ints, clamps, up)) (λ down. omega (arith, ints, clamps, down)) e
 
 -- a maximum chooses by the step of the first operand less the second
 pub maximum_chooses : (bits : ℕ) (z w : Option ℤ) (s : ℤ) → v.step bits (v.difference z w) ≡ Some s
     → Chooses (v.operation bits op.Maximum z w) z w s
 maximum_chooses bits None w s e = absurd (none-some s e)
 maximum_chooses bits (Some a) None s e = absurd (none-some s e)
-maximum_chooses bits (Some a) (Some b) s e = by_result (difference_of a b) refl e
-  where
-    by_result : (r : Result ℤ Fault) → difference_of a b ≡ r → v.step bits (v.number_of r) ≡ Some s
-        → Chooses (v.operation bits op.Maximum (Some a) (Some b)) (Some a) (Some b) s
-    by_result (Err fault) er es = absurd (none-some s es)
-    by_result (Ok d) er es =
-        let same : a -ℤ b ≡ d = number_is (a -ℤ b) d er in
-        let step : step_of bits d ≡ s = same_Some (step_of bits d) s es in (
-          λ t.
-              let up : pos 0 ≤ℤ d = (of_step bits d).0 (ap is_zero step ∙ t) in
-              let most : int_max a b ≡ a = omega (arith, ints, clamps, same, up) in ap (λ (n : ℤ). Some n) most,
-          λ t.
-              let down : d ≤ℤ negsuc 0 = (of_step bits d).1 (ap is_zero step ∙ t) in
-              let most : int_max a b ≡ b = omega (arith, ints, clamps, same, down) in ap (λ (n : ℤ). Some n) most,
-        )
+maximum_chooses bits (Some a) (Some b) s e =
+    chosen_by_step bits a b a b (int_max a b) s (λ up. omega (arith, ints, clamps, up)) (λ down. omega (arith, ints, clamps, down)) e
 
 -- an absolute value that is there chooses by the step of its operand
 pub absolute_chooses : (bits : ℕ) (z : Option ℤ) (n s : ℤ) → v.applied bits f.Absolute z ≡ Some n → v.step bits z ≡ Some s

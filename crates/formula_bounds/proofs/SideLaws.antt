@@ -151,44 +151,36 @@ module _ {V : Type 0} (k : Numbers V) (h : AreOrdered k) (bits : ℕ) (inputs : 
   Takes x first second dx dfirst dsecond =
       (b : Bool) × ((t : V) → x ≡ Some t → (if b then first else second) ≡ Some t) × ((t : V) → dx ≡ Some t → (if b then dfirst else dsecond) ≡ Some t)
 
+  -- x is taken if u is at most w, else y
+  taken_by_order : (x y u w : V) (dx dy : Option V)
+      → Takes (Some (if k.is_at_most u w then x else y)) (Some x) (Some y) (numbers.selected k (Some (numbers.step_of k (minus k.ring w u))) dx dy) dx dy
+  taken_by_order x y u w dx dy = by_test (k.is_at_most u w) refl
+    where
+      by_test : (c : Bool) → k.is_at_most u w ≡ c
+          → Takes (Some (if k.is_at_most u w then x else y)) (Some x) (Some y) (numbers.selected k (Some (numbers.step_of k (minus k.ring w u))) dx dy) dx dy
+      by_test true e = (
+        true,
+        λ t et. ap (λ (b : Bool). Some (if b then x else y)) (sym e) ∙ et,
+        λ t et. sym (chosen k h.are_exact true (minus k.ring w u) dx dy (order_by_difference k h.are_exact u w ∙ e)) ∙ et,
+      )
+      by_test false e = (
+        false,
+        λ t et. ap (λ (b : Bool). Some (if b then x else y)) (sym e) ∙ et,
+        λ t et. sym (chosen k h.are_exact false (minus k.ring w u) dx dy (order_by_difference k h.are_exact u w ∙ e)) ∙ et,
+      )
+
   minimum_takes : (x y dx dy : Option V)
       → Takes (numbers.operation k op.Minimum x y) x y (numbers.selected k ((exact k).step ((exact k).difference y x)) dx dy) dx dy
   minimum_takes None None dx dy = (true, λ t e. absurd (none-some t e), λ t e. absurd (none-some t e))
   minimum_takes None (Some y) dx dy = (true, λ t e. absurd (none-some t e), λ t e. absurd (none-some t e))
   minimum_takes (Some x) None dx dy = (true, λ t e. absurd (none-some t e), λ t e. absurd (none-some t e))
-  minimum_takes (Some x) (Some y) dx dy = by_test (k.is_at_most x y) refl
-    where
-      by_test : (c : Bool) → k.is_at_most x y ≡ c
-          → Takes (Some (if k.is_at_most x y then x else y)) (Some x) (Some y) (numbers.selected k (Some (numbers.step_of k (minus k.ring y x))) dx dy) dx dy
-      by_test true e = (
-        true,
-        λ t et. ap (λ (b : Bool). Some (if b then x else y)) (sym e) ∙ et,
-        λ t et. sym (chosen k h.are_exact true (minus k.ring y x) dx dy (order_by_difference k h.are_exact x y ∙ e)) ∙ et,
-      )
-      by_test false e = (
-        false,
-        λ t et. ap (λ (b : Bool). Some (if b then x else y)) (sym e) ∙ et,
-        λ t et. sym (chosen k h.are_exact false (minus k.ring y x) dx dy (order_by_difference k h.are_exact x y ∙ e)) ∙ et,
-      )
+  minimum_takes (Some x) (Some y) dx dy = taken_by_order x y x y dx dy
 
   maximum_takes : (x y dx dy : Option V)
       → Takes (numbers.operation k op.Maximum x y) x y (numbers.selected k ((exact k).step ((exact k).difference x y)) dx dy) dx dy
   maximum_takes None y dx dy = (true, λ t e. absurd (none-some t e), λ t e. absurd (none-some t e))
   maximum_takes (Some x) None dx dy = (true, λ t e. absurd (none-some t e), λ t e. absurd (none-some t e))
-  maximum_takes (Some x) (Some y) dx dy = by_test (k.is_at_most y x) refl
-    where
-      by_test : (c : Bool) → k.is_at_most y x ≡ c
-          → Takes (Some (if k.is_at_most y x then x else y)) (Some x) (Some y) (numbers.selected k (Some (numbers.step_of k (minus k.ring x y))) dx dy) dx dy
-      by_test true e = (
-        true,
-        λ t et. ap (λ (b : Bool). Some (if b then x else y)) (sym e) ∙ et,
-        λ t et. sym (chosen k h.are_exact true (minus k.ring x y) dx dy (order_by_difference k h.are_exact y x ∙ e)) ∙ et,
-      )
-      by_test false e = (
-        false,
-        λ t et. ap (λ (b : Bool). Some (if b then x else y)) (sym e) ∙ et,
-        λ t et. sym (chosen k h.are_exact false (minus k.ring x y) dx dy (order_by_difference k h.are_exact y x ∙ e)) ∙ et,
-      )
+  maximum_takes (Some x) (Some y) dx dy = taken_by_order x y y x dx dy
 
   absolute_takes : (x dx : Option V)
       → Takes (numbers.applied k f.Absolute x) x ((exact k).negative x) (numbers.selected k ((exact k).step x) dx ((exact k).negative dx)) dx ((exact k).negative dx)
