@@ -1,14 +1,13 @@
 -- Results and errors of rules that give an approximation.
-use Rattle.std.proofs.Common.{◌≡◌, ℕ, ◌<◌, ℤ, pos, ◌-ℤ◌, ◌*ℤ◌, ◌≤ℤ◌, Bool, true, false, Option, Some, None, Result, Ok, Err, if◌then◌else◌, refl, sym, subst, ◌∙◌, arith}
+use Rattle.std.proofs.Common.{◌≡◌, ℕ, ◌<◌, ℤ, pos, ◌-ℤ◌, ◌*ℤ◌, ◌≤ℤ◌, Bool, true, false, Option, Some, None, Result, Ok, Err, if◌then◌else◌, refl, subst, arith}
 use Rattle.std.proofs.lemmas.Int.{ints}
-use Rattle.std.proofs.lemmas.Option.{same_Some}
 use Rattle.fixed.specs.declared.faults.Fault.{Fault}
 use Rattle.fixed.proofs.FloorLemmas.{two_pos}
 use Rattle.derivative.specs.Exact.{Numbers}
-use Rattle.error_bounds.specs.Approximations.{Agrees, Approximation, approximation, exact_range, scale}
+use Rattle.error_bounds.specs.Approximations.{Agrees, Approximation, approximation, scale}
 use Rattle.error_bounds.specs.Ordered.{AreOrdered, IsBetween}
-use Rattle.interval_domain.specs.Ranges.{Range, has_zero}
-use Rattle.error_bounds.specs.Rules.{are_moderate, bounded, has_room, is_small, product_error, product_errors, quotient_error, quotient_errors, up_to_next, within_limits}
+use Rattle.interval_domain.specs.Ranges.{Range}
+use Rattle.error_bounds.specs.Rules.{bounded, is_small, within_limits}
 use Rattle.error_bounds.proofs.Between as between
 
 -- ---- limits

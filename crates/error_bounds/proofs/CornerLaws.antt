@@ -1,12 +1,12 @@
 -- Products and quotients of ranges at the ends that make the least and the greatest one.
-use Rattle.std.proofs.Common.{◌≡◌, ◌≢◌, ℤ, pos, negsuc, neg_ℤ, ◌*ℤ◌, ◌≤ℤ◌, ◌<ℤ◌, arith}
+use Rattle.std.proofs.Common.{◌≡◌, Bool, true, false, ℤ, pos, negsuc, neg_ℤ, ◌*ℤ◌, ◌≤ℤ◌, ◌<ℤ◌, refl, arith}
 use Rattle.std.proofs.Math.IntN.{*ℤ_comm}
 use Rattle.std.specs.Int.{int_max, int_min}
 use Rattle.std.proofs.lemmas.Int.{ints, clamps}
 use Rattle.fixed.specs.Arithmetic.{floor_of}
-use Rattle.interval_domain.specs.Ranges.{Range, quotients, range, times, up_over}
+use Rattle.interval_domain.specs.Ranges.{Range, has_zero, quotients, range, times}
 use Rattle.interval_domain.proofs.FloorLemmas.{div_falls, floor_rises}
-use Rattle.interval_domain.proofs.RangeLemmas.{range_same, scaled_ordered}
+use Rattle.interval_domain.proofs.RangeLemmas.{range_same, scaled_ordered, zero_in}
 use Rattle.error_bounds.proofs.IntegerProducts.{times_keeps, times_turns}
 
 -- ---- products
@@ -55,9 +55,13 @@ quotient_rises : (n c d : ℤ) → n <ℤ pos 0 → pos 0 <ℤ c → c ≤ℤ d 
 quotient_rises (negsuc n) (pos c) (pos d) z p h = omega (arith, ints, div_falls n c d (omega (arith, ints)) (omega (arith, ints)))
 quotient_rises _ _ _ z p h = absurd (omega (arith, ints))
 
--- a number above 0 isn't 0
-pub above_nonzero : (n : ℤ) → pos 0 <ℤ n → n ≢ pos 0
-above_nonzero n p = λ e. absurd (omega (arith, ints, p, e))
+-- a range of numbers above 0 doesn't have 0
+pub above_none : (y : Range) → pos 0 <ℤ y.low → has_zero y ≡ false
+above_none y p = by_test (has_zero y) refl
+  where
+    by_test : (test : Bool) → has_zero y ≡ test → test ≡ false
+    by_test true e = let i = zero_in y e in absurd (omega (arith, ints, i.at_least, p))
+    by_test false e = refl
 
 -- a quotient rises in the dividend
 dividend_rises : (x y d : ℤ) → pos 0 <ℤ d → x ≤ℤ y → floor_of x d ≤ℤ floor_of y d

@@ -70,7 +70,8 @@ fn is_moderate(factors: Ends, errors: Ends) -> bool
     magnitude(factors) * magnitude(errors) <= LARGEST_PRODUCT
 }
 
-/// Whether no product of the factors and the errors is beyond 2^116. Most errors are so slight that no product is needed.
+/// Whether no product of the factors and the errors is beyond 2^116. Most errors are so slight that no test of products
+/// is needed.
 pub(crate) fn are_moderate(factors: Ends, errors: Ends) -> bool
     requires factors { IsWithin (2 ^ 63) (range_of factors) }
     requires errors { IsWithin (2 ^ 62) (range_of errors) }
@@ -128,8 +129,8 @@ fn product_numerator(x: &Approximation, y: &Approximation) -> Ends
     plus(scaled(times_errors(x, y), 256), exact_times_errors(y, x))
 }
 
-// The floor of `n` over the error units in the number 1. The branches shift by a constant, which is faster than a shift by
-// a variable.
+// The floor of `n` over the error units in the number 1. The branches shift by a constant, which is faster than a shift
+// by a variable.
 fn floor_over_scale(frac: Frac, n: i128) -> i128
     ensures value { result ≡ floor_over n (scale (bits_of frac)) }
     ensures bound { unsigned_abs result ≤ unsigned_abs n }

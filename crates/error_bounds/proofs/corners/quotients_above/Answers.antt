@@ -1,10 +1,11 @@
-use Rattle.std.proofs.Common.{◌∙◌, neg_ℤ, ap, rules}
+use Rattle.std.proofs.Common.{◌∙◌, neg_ℤ, refl, ap, rules}
 use Rattle.std.specs.Int.{w128}
 use Rattle.std.proofs.lemmas.Int.{to_z-of_z}
 use mir.Val.{SFits}
-use Rattle.interval_domain.proofs.RangeLemmas.{low_nonzero, quotients_ordered, range_same}
+use Rattle.interval_domain.proofs.RangeLemmas.{quotients_ordered, range_same}
+use Rattle.interval_domain.specs.Ranges.{quotients}
 use Rattle.interval_domain.specs.Views.{range_of}
-use Rattle.error_bounds.proofs.CornerLaws.{above_nonzero, quotients_are}
+use Rattle.error_bounds.proofs.CornerLaws.{above_none, quotients_are}
 use Rattle.error_bounds.proofs.corners.quotients_above.Goals as goal
 
 pub invariant_of-result : goal.invariant_of-result
@@ -24,7 +25,8 @@ invariant_of-result c =
     let n = simp to_z-of_z at c.least_quotient-2.ensures.value in
     let h = simp to_z-of_z at c.negative-2.ensures in
     let t = quotients_are (range_of x) (range_of y) x.ordered c.requires.positive y.ordered in
-    let o = quotients_ordered x.low x.high y.low y.high (above_nonzero y.low c.requires.positive) in
+    let none = above_none (range_of y) c.requires.positive in
+    let o = quotients_ordered (range_of x) (range_of y) (quotients (range_of x) (range_of y)) y.ordered none refl in
     record { ordered = simp to_z-of_z (rw (l, h, n, m, ap (λ r. r.low) t, ap (λ r. r.high) t) o) }
 
 pub returns : goal.returns
