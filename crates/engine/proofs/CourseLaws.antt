@@ -72,20 +72,10 @@ goes_back a b n same e current previous count =
     let made : frames n p ≡ frames_in b = ap (λ (q : Frame). frames n q) (sym current) ∙ ap (λ (q : Frame). frames q b.frames.current.items) (sym previous) in
     record { system = same; stepped = only_one Back d (frames p c) (frames n p) (ap (option_map (λ n. frames n p)) e) ∙ ap Some made; counted = count }
 
--- a course that stays the same makes no step, after others
+-- a course that stays the same makes no step
 pub same_last : {A : Type 0} (w : Direction) (n : ℕ) (a b c : Course A) → HasGone w n a b → IsSameCourse b c → HasGone w n a c
 same_last w n a b c gone same =
     record { system = same.system ∙ gone.system; stepped = gone.stepped ∙ ap Some (sym (same_frames b c same)); counted = same.step ∙ gone.counted }
-
--- and before them
-pub same_first : {A : Type 0} (w : Direction) (n : ℕ) (a b c : Course A) → IsSameCourse a b → HasGone w n b c → HasGone w n a c
-same_first {A} w n a b c same gone = record {
-  system = gone.system ∙ same.system;
-  stepped =
-      ap (λ (f : Frames). steps_in w (safe_dynamics a.system.system) n f) (sym (same_frames a b same))
-      ∙ ap (λ (s : System (SlopeKernel A) A). steps_in w (safe_dynamics s) n (frames_in b)) (sym same.system) ∙ gone.stepped;
-  counted = gone.counted ∙ ap (λ z. counter_at w z n) same.step;
-}
 
 -- If two courses are the same, forces of the middle frame of one are forces of the middle frame of the other.
 pub still_forces : {A : Type 0} (w : Direction) (a b : Course A) (forces : List ℤ) → IsSameCourse a b → AreForces a.system.system (middle_in w a) forces → AreForces b.system.system (middle_in w b) forces

@@ -1,6 +1,4 @@
-use Rattle.std.proofs.Common.{◌≡◌, false, is_none}
-use Rattle.integrator.specs.States.{counter_after}
-use Rattle.engine.proofs.CourseLaws.{fits_next, goes_on, same_first, same_last, stays, still_forces}
+use Rattle.engine.proofs.CourseLaws.{fits_next, goes_on, same_last, stays, still_forces}
 use Rattle.engine.proofs.courses.Course.run_by.Goals as goal
 
 pub loop-done-init : goal.loop-done-init
@@ -11,15 +9,17 @@ make_step-requires-clause-forces g c = still_forces c.args.direction c.loop-done
 
 pub make_step-requires-clause-fits : goal.make_step-requires-clause-fits
 make_step-requires-clause-fits g c =
-    let fits : is_none (counter_after c.args.direction c.loop-done.self.step 1) ≡ false =
-    fits_next c.args.direction c.args.steps c.loop-done.done c.args.self.now c.loop-done.self c.requires c.loop-done.invariant c.loop-done-test.true in
-    rw c.in-Ok.ensures.same.step fits
+    let s = c.args.self.now in
+    let t = c.forces_pooled.new.self in
+    let gone = same_last c.args.direction c.loop-done.done s c.loop-done.self t c.loop-done.invariant c.in-Ok.ensures.same in
+    fits_next c.args.direction c.args.steps c.loop-done.done s t c.requires gone c.loop-done-test.true
 
 pub loop-done-preserved : goal.loop-done-preserved
 loop-done-preserved g c =
-    let w = c.args.direction in
-    goes_on w c.loop-done.done 1 c.args.self.now c.loop-done.self c.make_step.new.self c.loop-done.invariant
-    (same_first w 1 c.loop-done.self c.forces_pooled.new.self c.make_step.new.self c.in-Ok.ensures.same c.make_step.ensures)
+    let s = c.args.self.now in
+    let t = c.forces_pooled.new.self in
+    let gone = same_last c.args.direction c.loop-done.done s c.loop-done.self t c.loop-done.invariant c.in-Ok.ensures.same in
+    goes_on c.args.direction c.loop-done.done 1 s t c.make_step.new.self gone c.make_step.ensures
 
 pub returns-in-Err : goal.returns-in-Err
 returns-in-Err g c =
