@@ -12,7 +12,7 @@ use Rattle.state.specs.StateText.{IsState, StateView}
 use Rattle.integrator.proofs.CounterLaws.{counter_fits}
 use Rattle.potential.specs.Energies.{Energy, energy_of, job_tree}
 use Rattle.engine.specs.Faults.{IsRefusedBy}
-use Rattle.engine.specs.Engines.{AreSafe, CounterFits, CounterLeaves, EngineView, HasNoEngine, HasNoEngineOfTexts, IsEngineOfTexts}
+use Rattle.engine.specs.Engines.{AreSafe, CounterFits, CounterLeaves, EngineView, HasNoEngine, HasNoEngineOfTexts, IsEngineOfTexts, OfTexts}
 use Rattle.engine.specs.RunSpecification.{IsTextOf}
 use Rattle.engine.specs.declared.faults.InputFault.{InputFault}
 use Rattle.engine.specs.declared.faults.InputFault.TheVariants as input
@@ -63,17 +63,25 @@ pub job_tree_is : (j : JobValue) (e : Energy) → energy_of j ≡ Ok e → job_t
 unfolding job_tree
 job_tree_is j e made = rw made refl
 
+-- a statement about the job and the state of these texts
+pub of_texts : {job state : List ℕ} {holds : JobValue → StateView → Type 0} (j : JobValue) (s : StateView) → IsJobText limits job j → IsTextOf state s → holds j s → OfTexts job state holds
+of_texts j s job_text state_text it = record { j = j; s = s; job_text = job_text; state_text' = state_text; it = it }
+
+-- a statement that follows from another holds of the same texts
+pub of_texts_too : {job state : List ℕ} {P Q : JobValue → StateView → Type 0} → OfTexts job state P → ((j : JobValue) (s : StateView) → P j s → Q j s) → OfTexts job state Q
+of_texts_too t more = of_texts t.j t.s t.job_text t.state_text' (more t.j t.s t.it)
+
 -- the texts of an engine are safe
 pub safe_texts : (job state : List ℕ) (e : EngineView) → IsEngineOfTexts job state e → AreSafe job state
-safe_texts job state e t = record { j = t.j; s = t.s; job_text = t.job_text; state_text' = t.state_text'; it = record { system = t.it.system; made = t.it.made; it = t.it.safe } }
+safe_texts job state e t = of_texts_too t (λ j s is. record { system = is.system; made = is.made; it = is.safe })
 
 -- If the counter of the engine fits, the counter of its texts fits.
 pub texts_fit : (job state : List ℕ) (w : Direction) (n : ℕ) (e : EngineView) → IsEngineOfTexts job state e → is_none (counter_after w e.state.step n) ≡ false → CounterFits job state w n
-texts_fit job state w n e t h = record { j = t.j; s = t.s; job_text = t.job_text; state_text' = t.state_text'; it = rw t.it.is at h }
+texts_fit job state w n e t h = of_texts_too t (λ j s is. rw is.is at h)
 
 -- If the counter of the engine would leave 64 bits, the counter of its texts would leave 64 bits.
 pub texts_leave : (job state : List ℕ) (w : Direction) (n : ℕ) (e : EngineView) → IsEngineOfTexts job state e → counter_after w e.state.step n ≡ None → CounterLeaves job state w n
-texts_leave job state w n e t h = record { j = t.j; s = t.s; job_text = t.job_text; state_text' = t.state_text'; it = rw t.it.is at h }
+texts_leave job state w n e t h = of_texts_too t (λ j s is. rw is.is at h)
 
 -- ---- which engines there are
 
@@ -99,9 +107,9 @@ texts_refused : {A : Type 0} (job state : List ℕ) (j : JobValue) (s : StateVie
     → (f : InputFault A) → HasNoEngine j s f → HasNoEngineOfTexts job state f
 texts_refused job state j s job_text state_text (input.Job f) h = absurd h
 texts_refused job state j s job_text state_text (input.State f) h = absurd h
-texts_refused job state j s job_text state_text (input.Energy f) h = record { j = j; s = s; job_text = job_text; state_text' = state_text; it = h }
-texts_refused job state j s job_text state_text (input.System f) h = record { j = j; s = s; job_text = job_text; state_text' = state_text; it = h }
-texts_refused job state j s job_text state_text input.ForceRange h = record { j = j; s = s; job_text = job_text; state_text' = state_text; it = h }
+texts_refused job state j s job_text state_text (input.Energy f) h = of_texts j s job_text state_text h
+texts_refused job state j s job_text state_text (input.System f) h = of_texts j s job_text state_text h
+texts_refused job state j s job_text state_text input.ForceRange h = of_texts j s job_text state_text h
 
 -- likewise if memory may have run out
 pub texts_fail : {A : Type 0} (job state : List ℕ) (j : JobValue) (s : StateView) → IsJobText limits job j → IsTextOf state s

@@ -4,7 +4,7 @@ use Rattle.job.specs.Views.{job_value}
 use Rattle.state.specs.StateViews.{state_view}
 use Rattle.engine.specs.Engines.{HasNoEngineOfTexts}
 use Rattle.engine.specs.declared.faults.InputFault.TheVariants as input
-use Rattle.engine.proofs.EngineLaws.{handed_on, texts_fail}
+use Rattle.engine.proofs.EngineLaws.{handed_on, of_texts, texts_fail}
 use Rattle.engine.proofs.engine_runs.open.Goals as goal
 
 pub returns-in-Err-clause-refused : goal.returns-in-Err-clause-refused
@@ -28,24 +28,13 @@ returns-in-Ok-read-clause-refused g c =
 pub returns-in-Ok-read-clause-once : goal.returns-in-Ok-read-clause-once
 returns-in-Ok-read-clause-once g c =
     let found = c.in-Ok-read.ensures.found in
+    let job = c.in-Ok.ensures.job in
     IfOk-weaker c.new.result _ _
-    (λ _ says. record {
-      j = job_value c.in-Ok.job;
-      s = state_view c.in-Ok-read.state;
-      job_text = c.in-Ok.ensures.job;
-      state_text' = record { fits = found.0; is = found.1 };
-      it = (c.in-Ok.ensures.job.say.apart, says);
-    }) c.new.ensures.says
+    (λ _ says. of_texts (job_value c.in-Ok.job) (state_view c.in-Ok-read.state) job (record { fits = found.0; is = found.1 }) (job.say.apart, says)) c.new.ensures.says
 
 -- the engine is the engine of both texts
 pub returns-in-Ok-read-clause-opens : goal.returns-in-Ok-read-clause-opens
 returns-in-Ok-read-clause-opens g c =
     let found = c.in-Ok-read.ensures.found in
     IfOk-weaker c.new.result _ _
-    (λ _ is. record {
-      j = job_value c.in-Ok.job;
-      s = state_view c.in-Ok-read.state;
-      job_text = c.in-Ok.ensures.job;
-      state_text' = record { fits = found.0; is = found.1 };
-      it = is;
-    }) c.new.ensures.engine
+    (λ _ is. of_texts (job_value c.in-Ok.job) (state_view c.in-Ok-read.state) c.in-Ok.ensures.job (record { fits = found.0; is = found.1 }) is) c.new.ensures.engine
