@@ -19,7 +19,6 @@ ghost use Rattle.engine.specs.Observers.{IsNextFrameOfEngine, IsObserverOf};
 ghost use Rattle.engine.specs.EngineEnergies.{HasAcceptedEnergy, HasNoEnergy, IsEnergyOfEngine, engine_value};
 ghost use Rattle.frame_sums.specs.FrameSums.{ArePairTotals};
 ghost use Rattle.integrator.specs.States.{counter_after, current_frame, previous_frame};
-ghost use Rattle.integrator.specs.declared.direction.Direction.TheVariants.{Back, Forward};
 
 use crate::courses::Course;
 use crate::faults::InputFault;
@@ -238,8 +237,12 @@ impl<A: Allocator + Copy> Engine<A> {
         counter_after(direction, &self.state, steps).is_some()
     }
 
-    /// Makes n steps in a direction on one thread.
-    fn steps_alone(&mut self, direction: Direction, steps: u64) -> Result<(), StepFault>
+    /// Makes n steps in a direction on one thread. The step is Levesque and Verlet's (J. Stat. Phys. 72, 519, 1993),
+    /// with the exact sums of the forces of all pairs and the energy's derivative as written.
+    ///
+    /// `StepRange` exactly if the step counter would leave an i64; then nothing is done. `Memory`: memory ran out, and
+    /// the state is the one after `done` whole steps.
+    pub fn steps_alone(&mut self, direction: Direction, steps: u64) -> Result<(), StepFault>
         ensures went { IfOk result (λ _. Advanced direction steps self.old self.new) }
         ensures stopped { IfErr result (Stopped direction steps self.old self.new) }
     {
@@ -252,26 +255,6 @@ impl<A: Allocator + Copy> Engine<A> {
             Ok(()) => Ok(()),
             Err(done) => Err(StepFault::Memory { done }),
         }
-    }
-
-    /// Makes n steps forward on one thread. The step is Levesque and Verlet's (J. Stat.
-    /// Phys. 72, 519, 1993), with the exact sums of the forces of all pairs and the energy's derivative as written.
-    ///
-    /// `StepRange` exactly if the step counter would leave an i64; then nothing is done. `Memory`: memory ran out, and
-    /// the state is the one after `done` whole steps.
-    pub fn forward_alone(&mut self, steps: u64) -> Result<(), StepFault>
-        ensures went { IfOk result (λ _. Advanced Forward steps self.old self.new) }
-        ensures stopped { IfErr result (Stopped Forward steps self.old self.new) }
-    {
-        self.steps_alone(Direction::Forward, steps)
-    }
-
-    /// Makes n steps back on one thread. Errors and limits are as in `forward_alone`.
-    pub fn back_alone(&mut self, steps: u64) -> Result<(), StepFault>
-        ensures went { IfOk result (λ _. Advanced Back steps self.old self.new) }
-        ensures stopped { IfErr result (Stopped Back steps self.old self.new) }
-    {
-        self.steps_alone(Direction::Back, steps)
     }
 }
 
@@ -334,7 +317,8 @@ impl<A: Allocator + Copy + Send + Sync> Engine<A> {
     }
 
     /// Makes n steps in a direction with this number of workers; the caller's thread is the first. States and errors
-    /// are as in `forward` and `back`, without a test hook. A single worker waits for no other.
+    /// are those of `steps_alone`, in whatever order the workers take their tiles and add their forces. If a worker's
+    /// thread can't be started, the caller's thread runs it. A single worker waits for no other.
     pub fn make_steps<R: Threads + Sync>(
         &mut self,
         rt: &R,
@@ -349,36 +333,20 @@ impl<A: Allocator + Copy + Send + Sync> Engine<A> {
         self.run_in_range(&pool, direction, steps, workers, false)
     }
 
-    /// Makes n steps forward with this number of workers; the caller's thread is the first. States and errors are those
-    /// of `forward_alone`, in whatever order the workers take their tiles and add their forces. A worker calls the test
-    /// hook `gate` before each tile that it has drawn. If a worker's thread can't be started, the caller's thread runs
-    /// it.
-    pub fn forward<R: Threads + Sync, G: Gate + Sync>(
+    /// Makes n steps as `make_steps` does. A worker calls the test hook `gate` before each tile that it has drawn. A
+    /// single worker draws tiles, too.
+    pub fn make_hooked_steps<R: Threads + Sync, G: Gate + Sync>(
         &mut self,
         rt: &R,
+        direction: Direction,
         steps: u64,
         workers: Workers,
         gate: &G,
     ) -> Result<(), StepFault>
-        ensures went { IfOk result (λ _. Advanced Forward steps self.old self.new) }
-        ensures stopped { IfErr result (Stopped Forward steps self.old self.new) }
+        ensures went { IfOk result (λ _. Advanced direction steps self.old self.new) }
+        ensures stopped { IfErr result (Stopped direction steps self.old self.new) }
     {
         let pool = Pool { rt, gate };
-        self.run_in_range(&pool, Direction::Forward, steps, workers, true)
-    }
-
-    /// Makes n steps back with `workers` workers. Otherwise it is like `forward`.
-    pub fn back<R: Threads + Sync, G: Gate + Sync>(
-        &mut self,
-        rt: &R,
-        steps: u64,
-        workers: Workers,
-        gate: &G,
-    ) -> Result<(), StepFault>
-        ensures went { IfOk result (λ _. Advanced Back steps self.old self.new) }
-        ensures stopped { IfErr result (Stopped Back steps self.old self.new) }
-    {
-        let pool = Pool { rt, gate };
-        self.run_in_range(&pool, Direction::Back, steps, workers, true)
+        self.run_in_range(&pool, direction, steps, workers, true)
     }
 }

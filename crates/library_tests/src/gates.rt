@@ -107,35 +107,13 @@ fn text_after<R: Threads + Sync + AllocGlobal>(
     engine: &mut Engine<Global>,
 ) -> Option<Vec<u8>> {
     let went = match workers {
-        Some(workers) => goes_together(rt, direction, workers, engine, gate),
-        None => goes_alone(direction, engine),
+        Some(workers) => engine.make_hooked_steps(rt, direction, 2, workers, gate),
+        None => engine.steps_alone(direction, 2),
     };
-    if went {
+    if went.is_ok() {
         text_of(rt.alloc(), engine)
     } else {
         None
-    }
-}
-
-/// Whether this engine makes two steps on one thread.
-fn goes_alone(direction: Direction, alone: &mut Engine<Global>) -> bool {
-    match direction {
-        Direction::Forward => alone.forward_alone(2).is_ok(),
-        Direction::Back => alone.back_alone(2).is_ok(),
-    }
-}
-
-/// Whether this engine makes two steps by these workers.
-fn goes_together<R: Threads + Sync>(
-    rt: &R,
-    direction: Direction,
-    workers: Workers,
-    together: &mut Engine<Global>,
-    gate: &Meeting,
-) -> bool {
-    match direction {
-        Direction::Forward => together.forward(rt, 2, workers, gate).is_ok(),
-        Direction::Back => together.back(rt, 2, workers, gate).is_ok(),
     }
 }
 
