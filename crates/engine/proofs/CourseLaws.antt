@@ -130,20 +130,8 @@ module _ {A : Type 0} (w : Direction) (n : ℕ) (j : Job A) (s : State A) (a b :
   is_engine t moved ring atoms =
       let size = reached_sizes w (engine_dynamics (engine_view j s a.system.system)) n (state_view s) (frames_in b) steps_of_state in
       let at : frames_of (state_view t) ≡ (frames_in b) = ap frames_of moved ∙ frames_moved (state_view s) (frames_in b) b.step size.0 size.1 in
-      let old : IsSystemOf j t a.system.system = record {
-        dynamics = rw ring h.system.dynamics;
-        energy = h.system.energy;
-        program = h.system.program;
-        atoms = atoms ∙ h.system.atoms;
-        table = h.system.table;
-        parameters = h.system.parameters;
-        globals = h.system.globals;
-        core = h.system.core;
-        cutoff = h.system.cutoff;
-        slope = h.system.slope;
-      } in
       record {
-        system = subst (λ (y : System (SlopeKernel A) A). IsSystemOf j t y) (sym gone.system) old;
+        system = subst (λ (y : System (SlopeKernel A) A). IsSystemOf j t y) (sym gone.system) (rw (ring, atoms) h.system);
         frames' = sym at;
         step = sym (ap (λ (v : StateView). v.step) moved);
       }

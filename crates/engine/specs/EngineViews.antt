@@ -1,8 +1,9 @@
 -- An engine of the program as contracts see it.
-use Rattle.std.specs.Prelude.{◌≡◌, ◌-◌, ◌*◌, ◌^◌, ◌<◌, length, map, Ok}
+use Rattle.std.specs.Prelude.{◌≡◌, ℕ, ◌-◌, ◌*◌, ◌^◌, ◌<◌, length, map, Ok}
 use Rattle.std.specs.List.{All}
 use Rattle.energy_program.specs.Programs.{program_tree, trees_of}
 use Rattle.job.specs.Views.{job_value, type_value}
+use Rattle.ring_box.specs.declared.boxes.RingBox.{RingBox}
 use Rattle.job.specs.declared.jobs.Job.{Job}
 use Rattle.state.specs.StateViews.{sides_view, state_view}
 use Rattle.state.specs.declared.states.State.{State}
@@ -24,18 +25,22 @@ use Rattle.verifier.specs.Kernels.{Kernel}
 abbrev pub engine_view : {A : Type 0} → Job A → State A → System (SlopeKernel A) A → EngineView
 engine_view j s y = record { job = job_value j; types = y.types.items; state = state_view s }
 
--- the system is the job's, for the atoms and the box of the state
-pub record IsSystemOf {A : Type 0} (j : Job A) (s : State A) (y : System (SlopeKernel A) A) : Type 0 where
-  pub dynamics : safe_dynamics y ≡ as_written (job_value j) (sides_view s.ring) (job_tree (job_value j)) y.types.items
+-- the system is the job's, for this number of atoms in this box
+pub record IsSystemFor {A : Type 0} (j : Job A) (ring : RingBox) (count : ℕ) (y : System (SlopeKernel A) A) : Type 0 where
+  pub dynamics : safe_dynamics y ≡ as_written (job_value j) (sides_view ring) (job_tree (job_value j)) y.types.items
   pub energy : program_tree y.kernel.energy ≡ job_tree (job_value j)
   pub program : job_program (job_value j) ≡ Ok (trees_of y.kernel.energy)
-  pub atoms : length s.atoms.items ≡ length y.masses.items
+  pub atoms : count ≡ length y.masses.items
   pub table : y.kernel.verified.table ≡ table_of (job_value j)
   pub parameters : y.kernel.energy.parameters ≡ length j.parameters.items
   pub globals : y.kernel.energy.globals ≡ length j.globals.items
   pub core : y.core ≡ j.core
   pub cutoff : y.cutoff ≡ j.cutoff
   pub slope : IsSlopeKernel (job_value j) y.kernel.verified
+
+-- the system is the job's, for the atoms and the box of the state
+abbrev pub IsSystemOf : {A : Type 0} → Job A → State A → System (SlopeKernel A) A → Type 0
+IsSystemOf j s y = IsSystemFor j s.ring (length s.atoms.items) y
 
 -- the types and masses of the state's atoms under the job; its accepted code is safe for them, in the state's box
 pub record AreAtomsOf {A : Type 0} (j : Job A) (s : State A) (k : Kernel) (t : TypedAtoms A) : Type 0 where
