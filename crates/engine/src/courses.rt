@@ -16,9 +16,7 @@ ghost use Rattle.frame_sums.specs.SafeSystems.{safe_dynamics};
 ghost use Rattle.engine.specs.Counting.{middle_of};
 
 use frame_sums::{Crew, Pool, SafeSystem, forces_on};
-use integrator::{
-    Direction, Stepped, System, TypedAtoms, Workers, advance, current_frame, previous_frame,
-};
+use integrator::{Direction, Stepped, System, TypedAtoms, Workers, advance, frames_of};
 use observables::PairTotals;
 use potential::{LaneKernel, SlopeKernel};
 use ring_box::{Place3, Vector};
@@ -100,12 +98,11 @@ impl<A: Allocator + Copy> Course<A> {
         ensures step { IfOk result (λ c. c.step ≡ state.now.step) }
     {
         let system = SafeSystem::new(alloc, system)?;
-        let previous = previous_frame(alloc, &state.atoms)?;
-        let current = current_frame(alloc, &state.atoms)?;
+        let frames = frames_of(alloc, state)?;
         let crew = Crew::new(alloc, Workers::new(1))?;
         Ok(Course {
             system,
-            frames: Stepped { previous, current },
+            frames,
             step: state.step,
             crew,
             forces: None,
@@ -129,8 +126,7 @@ impl<A: Allocator + Copy> Course<A> {
         ensures step { OnOk result (self.new.step ≡ state.now.step) }
         ensures same { IfErr result (λ _. IsSameCourse self.old self.new) }
     {
-        let previous = previous_frame(alloc, &state.atoms)?;
-        let current = current_frame(alloc, &state.atoms)?;
+        let taken = frames_of(alloc, state)?;
         let Course {
             system,
             frames,
@@ -139,7 +135,7 @@ impl<A: Allocator + Copy> Course<A> {
             ..
         } = self;
         system.take(alloc, state.ring, atoms)?;
-        *frames = Stepped { previous, current };
+        *frames = taken;
         *step = state.step;
         *forces = None;
         Ok(())

@@ -1,26 +1,14 @@
 -- Frames of a state's atoms, and atoms with other coordinates.
-use Rattle.std.proofs.Common.{◌≡◌, ◌≢◌, ℕ, ◌+◌, ◌<◌, ◌≤◌, List, [], ◌∷◌, length, get_or, set, arith, refl, ap, sym, ◌∙◌, inl, inr, ℤ, map, get_or-set_same, get_or-set_other}
+use Rattle.std.proofs.Common.{◌≡◌, ◌≢◌, ℕ, ◌+◌, ◌<◌, ◌≤◌, List, length, get_or, set, arith, refl, ap, sym, ◌∙◌, inl, inr, ℤ, map, get_or-set_same, get_or-set_other}
 use Rattle.std.proofs.lemmas.List.{get_or-map}
 use Rattle.std.proofs.lemmas.Simd.{map-map}
 use Rattle.std.proofs.lemmas.Bool.{cases_eq}
 use Rattle.ring_box.specs.Places.{no_place, places_of}
 use Rattle.state.specs.StateText.{AtomView, StateView}
-use Rattle.state.specs.StateViews.{atom_view}
-use Rattle.state.specs.declared.states.Atom.{Atom}
 use Rattle.integrator.specs.Forces.{numbers_from}
 use Rattle.integrator.specs.Frames.{Frames, frames}
 use Rattle.integrator.specs.States.{current_frame, frames_of, moved_state, nobody, moved_atom, moved_atom_at, moved_atoms, previous_frame}
 use Rattle.integrator.proofs.NumberLaws.{length-numbers, made_of_numbers, number_at}
-
--- the previous frame of a state's atoms is made of their previous coordinates
-pub previous_frame-views : (atoms : List Atom) → previous_frame (map atom_view atoms) ≡ map (λ a. a.previous) atoms
-previous_frame-views [] = refl
-previous_frame-views (a ∷ atoms) = ap (λ f. a.previous ∷ f) (previous_frame-views atoms)
-
--- the current frame of a state's atoms is made of their current coordinates
-pub current_frame-views : (atoms : List Atom) → current_frame (map atom_view atoms) ≡ map (λ a. a.current) atoms
-current_frame-views [] = refl
-current_frame-views (a ∷ atoms) = ap (λ f. a.current ∷ f) (current_frame-views atoms)
 
 -- one atom more is moved
 pub moved_more : (atoms before : List AtomView) (f : Frames) (i : ℕ) (y : AtomView) → i < length atoms → y ≡ moved_atom_at before f i

@@ -18,6 +18,6 @@ pub use atoms::TypedAtoms;
 pub use direction::Direction;
 pub use faults::{StepFault, SystemFault};
 pub use starts::typed_atoms;
-pub use states::{Stepped, advance, counter_after, current_frame, previous_frame};
+pub use states::{Stepped, advance, counter_after, frames_of};
 pub use systems::System;
 pub use workers::Workers;

@@ -4,7 +4,7 @@ ghost use Rattle.std.specs.Prelude.{◌≡◌, length, map, true, IfOk, IfSome};
 ghost use Rattle.fixed.specs.Arithmetic.{in_range};
 ghost use Rattle.state.specs.StateViews.{atom_view, state_view};
 ghost use Rattle.integrator.specs.Frames.{frames};
-ghost use Rattle.integrator.specs.States.{counter_after, counter_at, moved_state, moved_atom, moved_atoms};
+ghost use Rattle.integrator.specs.States.{counter_after, counter_at, frames_of, moved_state, moved_atom, moved_atoms};
 
 use crate::direction::Direction;
 use ring_box::Place3;
@@ -28,26 +28,29 @@ pub fn counter_after<A: Allocator>(
     i64::try_from(after).ok()
 }
 
-/// The grid coordinates of the atoms one step earlier. `AllocError`: memory ran out.
-pub fn previous_frame<A: Allocator>(alloc: A, atoms: &[Atom]) -> Result<Vec<Place3, A>, AllocError>
-    ensures { IfOk result (λ v. v.items ≡ map (λ a. a.previous) atoms.now) }
-{
-    let mut frame = Vec::new(alloc);
-    for atom in atoms {
-        frame.push(atom.previous)?;
-    }
-    Ok(frame)
+/// Two consecutive frames of grid coordinates below 2^32 along each axis.
+#[derive(Drop)]
+pub struct Stepped<A: Allocator> {
+    /// The coordinates of each atom one step earlier.
+    pub previous: Vec<Place3, A>,
+    /// The coordinates of each atom.
+    pub current: Vec<Place3, A>,
 }
 
-/// The grid coordinates of the atoms. `AllocError`: memory ran out.
-pub fn current_frame<A: Allocator>(alloc: A, atoms: &[Atom]) -> Result<Vec<Place3, A>, AllocError>
-    ensures { IfOk result (λ v. v.items ≡ map (λ a. a.current) atoms.now) }
+/// The two frames of a state. `AllocError`: memory ran out.
+pub fn frames_of<A: Allocator + Copy>(alloc: A, state: &State<A>) -> Result<Stepped<A>, AllocError>
+    ensures value { IfOk result (λ t. frames t.previous.items t.current.items ≡ frames_of (state_view state.now)) }
+    ensures previous { IfOk result (λ t. length t.previous.items ≡ length state.now.atoms.items) }
+    ensures current { IfOk result (λ t. length t.current.items ≡ length state.now.atoms.items) }
 {
-    let mut frame = Vec::new(alloc);
+    let mut previous = Vec::new(alloc);
+    let mut current = Vec::new(alloc);
+    let atoms: &[Atom] = &state.atoms;
     for atom in atoms {
-        frame.push(atom.current)?;
+        previous.push(atom.previous)?;
+        current.push(atom.current)?;
     }
-    Ok(frame)
+    Ok(Stepped { previous, current })
 }
 
 /// The atom with these coordinates in the previous and the current frame.
@@ -68,15 +71,6 @@ fn move_atoms(atoms: &mut [Atom], previous: &[Place3], current: &[Place3])
     for k in 0..atoms.len() {
         atoms[k] = moved_atom(atoms[k], previous[k], current[k]);
     }
-}
-
-/// Two consecutive frames of grid coordinates below 2^32 along each axis.
-#[derive(Drop)]
-pub struct Stepped<A: Allocator> {
-    /// The coordinates of each atom one step earlier.
-    pub previous: Vec<Place3, A>,
-    /// The coordinates of each atom.
-    pub current: Vec<Place3, A>,
 }
 
 /// Sets a state's coordinates to those in these frames, and its counter to this one.

@@ -1,12 +1,12 @@
 //! Tested runs of states, and from bytes to bytes.
 
-ghost use Rattle.std.specs.Prelude.{◌≡◌, ◌<◌, ◌+◌, length, map, true, Some, IfOk, OnOk, IfErr, ℕ, List, MatchResult};
+ghost use Rattle.std.specs.Prelude.{◌≡◌, ◌<◌, ◌+◌, length, true, Some, IfOk, OnOk, IfErr, ℕ, List, MatchResult};
 ghost use Rattle.std.specs.List.{All};
 ghost use Rattle.fallible.specs.Failures.{IfRefused};
 ghost use Rattle.fallible.specs.Out.{Appends, CanCountFailure};
-ghost use Rattle.state.specs.StateViews.{atom_view, state_view};
+ghost use Rattle.state.specs.StateViews.{state_view};
 ghost use Rattle.fixed.specs.Arithmetic.{in_range};
-ghost use Rattle.integrator.specs.States.{counter_at, current_frame, frames_of, moved_state, previous_frame};
+ghost use Rattle.integrator.specs.States.{counter_at, frames_of, moved_state};
 ghost use Rattle.integrator.specs.Frames.{frames, opposite, steps_in};
 ghost use Rattle.integrator.specs.Systems.{dynamics_of};
 ghost use Rattle.tested_run.specs.Refusals.{IsRefusal, IsStop, IsTestedUnwritten, IsResourceFault};
@@ -23,9 +23,9 @@ use crate::steps::make_steps;
 use crate::stops::Stop;
 use crate::sums::NO_FORCE;
 use fallible::{Failure, Out};
-use integrator::{Direction, Stepped, System, advance, current_frame, previous_frame};
+use integrator::{Direction, Stepped, System, advance, frames_of};
 use ring_box::{Place3, Vector};
-use state::{Atom, State};
+use state::State;
 use std::alloc::Allocator;
 
 /// Makes n steps from two frames in a direction.
@@ -54,38 +54,35 @@ fn step_frames<K: TestedSlope + Drop, A: Allocator>(
     }
 }
 
-/// The frames of these atoms after n steps in a direction.
+/// The frames of this state's atoms after n steps in a direction.
 fn frames_after<K: TestedSlope + Drop, A: Allocator + Copy>(
     alloc: A,
     system: &System<K, A>,
     direction: Direction,
     steps: u64,
-    atoms: &[Atom],
+    state: &State<A>,
 ) -> Result<Stepped<A>, Failure<Stop>>
-    requires atoms { length atoms.now ≡ length system.now.masses.items }
+    requires atoms { length state.now.atoms.items ≡ length system.now.masses.items }
     requires known { All (λ t. t < K.types system.now.kernel) system.now.types.items }
     ensures value { IfOk result (λ t. steps_in direction (dynamics_of K.slope system.now) steps
-        (frames (previous_frame (map atom_view atoms.now)) (current_frame (map atom_view atoms.now)))
-        ≡ Some (frames t.previous.items t.current.items)) }
-    ensures previous { IfOk result (λ t. length t.previous.items ≡ length atoms.now) }
-    ensures current { IfOk result (λ t. length t.current.items ≡ length atoms.now) }
+        (frames_of (state_view state.now)) ≡ Some (frames t.previous.items t.current.items)) }
+    ensures previous { IfOk result (λ t. length t.previous.items ≡ length state.now.atoms.items) }
+    ensures current { IfOk result (λ t. length t.current.items ≡ length state.now.atoms.items) }
     ensures stops { IfErr result (λ failure. IfRefused failure
         (λ s. StopsAt direction (dynamics_of K.slope system.now) (faults_of K.fault system.now) steps
-        (frames (previous_frame (map atom_view atoms.now)) (current_frame (map atom_view atoms.now))) s.done
-        (s.pair.low, s.pair.high) s.pair.fault)) }
+        (frames_of (state_view state.now)) s.done (s.pair.low, s.pair.high) s.pair.fault)) }
 {
-    let mut previous = previous_frame(alloc, atoms)?;
-    let mut current = current_frame(alloc, atoms)?;
-    let mut sums = vec![in alloc; NO_FORCE; atoms.len()]?;
+    let mut frames = frames_of(alloc, state)?;
+    let mut sums = vec![in alloc; NO_FORCE; state.atoms.len()]?;
     match step_frames(
         system,
         direction,
         steps,
-        &mut previous,
-        &mut current,
+        &mut frames.previous,
+        &mut frames.current,
         &mut sums,
     ) {
-        Ok(()) => Ok(Stepped { previous, current }),
+        Ok(()) => Ok(frames),
         Err(stop) => Err(Failure::Refused(stop)),
     }
 }
@@ -151,7 +148,7 @@ fn run_frames<A: Allocator + Copy>(
         (IsStop direction steps (start_view prepared.now) (faults_view prepared.now))) }
 {
     let Prepared { state, system, .. } = prepared;
-    match frames_after(alloc, system, direction, steps, &state.atoms) {
+    match frames_after(alloc, system, direction, steps, state) {
         Ok(stepped) => Ok(stepped),
         Err(Failure::Memory) => Err(Failure::Memory),
         Err(Failure::Refused(stop)) => Err(Failure::Refused(kernel_fault(
