@@ -18,7 +18,7 @@ use Rattle.ring_box.specs.declared.boxes.RingBox.{RingBox}
 use Rattle.ring_box.specs.declared.vectors.Place3.{Place3}
 use Rattle.ring_box.specs.declared.vectors.Vector.{Vector}
 use Rattle.integrator.specs.Forces.{force_or_none, numbers_from, pairs_of, plus, share_of, sum_of_shares}
-use Rattle.integrator.specs.Frames.{Dynamics, Frame, Frames, exchanged, force_at, frames, moved_frame, next_frame, next_places, pair_force, steps_in}
+use Rattle.integrator.specs.Frames.{Dynamics, Frame, Frames, force_at, frames, moved_frame, next_frame, next_places, pair_force, steps_in}
 use Rattle.integrator.specs.Starts.{as_written, pair_inputs}
 use Rattle.potential.specs.Tables.{global_values, no_type, numbers_of}
 use Rattle.integrator.specs.States.{counter_at, frames_of}
@@ -26,7 +26,7 @@ use Rattle.integrator.specs.declared.direction.Direction.{Direction}
 use Rattle.integrator.specs.declared.direction.Direction.TheVariants.{Back, Forward}
 use Rattle.line_text.proofs.StepLaws.{none_is_no_some}
 use Rattle.integrator.proofs.NumberLaws.{at_number, length-numbers}
-use Rattle.integrator.proofs.MotionLaws.{back_from_forward, exchanged_steps}
+use Rattle.integrator.proofs.MotionLaws.{back_from_forward, forward_from_back}
 use Rattle.engine.specs.RunSpecification.{Follows, IsPairForce, Lead, Leads, far, inputs, near, next_of, together}
 
 -- ---- the force of a pair
@@ -209,19 +209,14 @@ module _ (j : JobValue) (tree : Tree) (sides types : List ℕ) where
   led_by : (n : ℕ) (p c q e : Frame) → Lead j tree sides types n p c q e → steps_in Forward motion n (frames p c) ≡ Some (frames q e)
   led_by n p c q e r = rw (r.begins.0, r.begins.1, r.ends.0, r.ends.1) at (led n r.frame r.steps)
 
-exchanged_from : (q e : Frame) (o : Option Frames) → option_map exchanged o ≡ Some (frames q e) → o ≡ Some (frames e q)
-exchanged_from q e None h = absurd (none_is_no_some (frames q e) h)
-exchanged_from q e (Some f) h = ap Some (ap exchanged (same_Some (exchanged f) (frames q e) h))
-
 -- Steps of the model in a direction are steps of the specification.
 pub leads : (w : Direction) (j : JobValue) (tree : Tree) (types : List ℕ) (n : ℕ) (s t : StateView) → steps_in w (as_written j s.sides tree types) n (frames_of s) ≡ Some (frames_of t) → t.step ≡ counter_at w s.step n
     → Leads w j tree types n s t
 leads Forward j tree types n s t h k = (lead j tree s.sides types n (frames_of s).previous (frames_of s).current (frames_of t).previous (frames_of t).current h, k)
 leads Back j tree types n s t h k =
-    let d = as_written j s.sides tree types in
     let f = frames_of s in
     let g = frames_of t in
-    (lead j tree s.sides types n f.current f.previous g.current g.previous (exchanged_from g.previous g.current (steps_in Forward d n (frames f.current f.previous)) (sym (exchanged_steps d n (frames f.current f.previous)) ∙ h)), k)
+    (lead j tree s.sides types n f.current f.previous g.current g.previous (forward_from_back (as_written j s.sides tree types) n f g h), k)
 
 -- Steps of the specification are steps of the model.
 pub led_to : (w : Direction) (j : JobValue) (tree : Tree) (types : List ℕ) (n : ℕ) (s t : StateView) → Leads w j tree types n s t

@@ -1,7 +1,9 @@
 -- Sums of forces, their shares, and the pairs of a frame.
 use Rattle.std.proofs.Common.{◌≡◌, ◌≢◌, ℕ, zero, suc, ◌+◌, ◌<◌, ◌≤◌, true, false, List, [], ◌∷◌, ◌++◌, ℤ, arith, refl, ap, sym, ◌∙◌, ◌==◌}
 use Rattle.std.proofs.Math.IntN.{+ℤ_assoc, +ℤ_idl, +ℤ_idr}
+use Rattle.std.specs.List.{All}
 use Rattle.std.proofs.lemmas.Bool.Decides.{nat_tests}
+use Rattle.std.proofs.lemmas.List.Elements.{All-cons, All-head, All-nil, All-tail}
 use Rattle.ring_box.specs.Forces.{no_force}
 use Rattle.ring_box.specs.declared.vectors.Vector.{Vector}
 use Rattle.integrator.specs.Forces.{plus, negative, share_of, sum_of_shares, pairs_with, pairs_from}
@@ -61,6 +63,13 @@ unfolding ArePairsOf pairs_from
 frame_pairs n i zero h = tt
 frame_pairs n i (suc m) h =
     pairs-append n (pairs_with i (suc i) m) (pairs_from (suc i) m) (row_pairs n i (suc i) m (omega arith) (omega arith)) (frame_pairs n (suc i) m (omega arith))
+
+-- if P implies Q for each pair of n atoms, and P holds for all pairs in a list, Q holds for all pairs in the list
+pub pairs_weaker : (P Q : ℕ × ℕ → Type 0) (n : ℕ) → ((p : ℕ × ℕ) → IsPairOf n p → P p → Q p) → (ps : List (ℕ × ℕ)) → ArePairsOf n ps → All P ps → All Q ps
+pairs_weaker P Q n h [] are all = All-nil Q
+pairs_weaker P Q n h (p ∷ ps) are all =
+    let parts = pairs_parts n p ps are in
+    All-cons Q p ps (h p parts.0 (All-head P p ps all)) (pairs_weaker P Q n h ps parts.1 (All-tail P p ps all))
 
 -- ---- one pair
 

@@ -167,3 +167,12 @@ exchanged_steps d (suc n) f =
 -- if n forward steps lead from c, p to e, q, n backward steps lead from p, c to q, e
 pub back_from_forward : (d : Dynamics) (n : ℕ) (p c q e : Frame) → steps_in Forward d n (frames c p) ≡ Some (frames e q) → steps_in Back d n (frames p c) ≡ Some (frames q e)
 back_from_forward d n p c q e h = exchanged_steps d n (frames c p) ∙ ap (option_map exchanged) h
+
+exchanged_to : (o : Option Frames) (f : Frames) → option_map exchanged o ≡ Some f → o ≡ Some (exchanged f)
+exchanged_to None f h = absurd (none_is_no_some f h)
+exchanged_to (Some g) f h = ap Some (ap exchanged (same_Some (exchanged g) f h))
+
+-- if n backward steps lead from f to g, n forward steps lead from f with its frames exchanged to g with its frames
+-- exchanged
+pub forward_from_back : (d : Dynamics) (n : ℕ) (f g : Frames) → steps_in Back d n f ≡ Some g → steps_in Forward d n (exchanged f) ≡ Some (exchanged g)
+forward_from_back d n f g h = exchanged_to (steps_in Forward d n (exchanged f)) g (sym (exchanged_steps d n (exchanged f)) ∙ h)

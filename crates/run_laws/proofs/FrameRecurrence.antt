@@ -1,12 +1,11 @@
 -- Steps of frames: a backward step is a forward step with the two frames exchanged. If any two frames of n atoms have a
 -- next frame, any two recur.
-use Rattle.std.proofs.Common.{◌≡◌, ℕ, zero, suc, ◌+◌, ◌-◌, ◌*◌, ◌^◌, ◌<◌, ◌≤◌, length, Option, Some, None, arith, refl, ap, sym, ◌∙◌, option_map}
+use Rattle.std.proofs.Common.{◌≡◌, ℕ, zero, suc, ◌+◌, ◌-◌, ◌*◌, ◌^◌, ◌<◌, ◌≤◌, length, Some, arith, refl, ap, sym, ◌∙◌}
 use Rattle.std.specs.Option.{option_and_then}
 use Rattle.std.proofs.lemmas.Option.{same_Some}
-use Rattle.line_text.proofs.StepLaws.{none_is_no_some}
 use Rattle.integrator.specs.Frames.{AreOfSameAtoms, Dynamics, Frames, exchanged, frames, steps_in}
 use Rattle.integrator.specs.declared.direction.Direction.TheVariants.{Forward}
-use Rattle.integrator.proofs.MotionLaws.{exchanged_steps, returned}
+use Rattle.integrator.proofs.MotionLaws.{forward_from_back, returned}
 use Rattle.run_laws.proofs.FrameNumbers.{pair_apart, pair_below, pair_number}
 use Rattle.run_laws.proofs.Pigeonhole.{two_meet}
 use Rattle.engine.proofs.AdvanceLaws.{steps_added}
@@ -16,13 +15,9 @@ module _ (d : Dynamics) where
   pub one_start : (n : ℕ) (f f' g : Frames) → AreOfSameAtoms f → AreOfSameAtoms f' → steps_in Forward d n f ≡ Some g → steps_in Forward d n f' ≡ Some g → f ≡ f'
   one_start n f f' g h h' e e' = same_Some f f' (sym (returned Forward d n f g h e).back ∙ (returned Forward d n f' g h' e').back)
 
-  exchanged_to : (o : Option Frames) (f : Frames) → option_map exchanged o ≡ Some f → o ≡ Some (exchanged f)
-  exchanged_to None f h = absurd (none_is_no_some f h)
-  exchanged_to (Some g) f h = ap Some (ap exchanged (same_Some (exchanged g) f h))
-
   -- if n steps lead from f to g, n steps lead from g with its frames exchanged to f with its frames exchanged
   pub reversed : (n : ℕ) (f g : Frames) → AreOfSameAtoms f → steps_in Forward d n f ≡ Some g → steps_in Forward d n (exchanged g) ≡ Some (exchanged f)
-  reversed n f g h e = exchanged_to (steps_in Forward d n (exchanged g)) f (sym (exchanged_steps d n (exchanged g)) ∙ (returned Forward d n f g h e).back)
+  reversed n f g h e = forward_from_back d n g f (returned Forward d n f g h e).back
 
 -- ---- recurrence
 

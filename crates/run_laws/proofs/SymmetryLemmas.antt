@@ -1,9 +1,9 @@
 -- A symmetry of the motion is a map of positions with a map of forces. If pair forces and next positions commute with
 -- the maps, so do frames, steps, states and runs.
-use Rattle.std.proofs.Common.{◌≡◌, ℕ, zero, suc, ◌<◌, ◌≤◌, List, [], ◌∷◌, length, get_or, ℤ, arith, refl, ap, sym, subst, ◌∙◌, map, slice_index}
+use Rattle.std.proofs.Common.{◌≡◌, ℕ, zero, suc, ◌<◌, ◌≤◌, List, length, get_or, ℤ, arith, refl, ap, sym, subst, ◌∙◌, map, slice_index}
 use Rattle.std.specs.List.{All}
 use Rattle.std.proofs.lemmas.List.{get_or-map, length-map}
-use Rattle.std.proofs.lemmas.List.Elements.{All-cons, All-from_recursion, All-head, All-map, All-nil, All-tail, recursion_from_All}
+use Rattle.std.proofs.lemmas.List.Elements.{All-from_recursion, All-map, recursion_from_All}
 use Rattle.std.proofs.lemmas.Simd.{map-map}
 use Rattle.energy_program.specs.Tree.{Tree}
 use Rattle.job.specs.Values.{JobValue}
@@ -17,25 +17,18 @@ use Rattle.integrator.specs.declared.direction.Direction.{Direction}
 use Rattle.integrator.specs.declared.direction.Direction.TheVariants.{Back, Forward}
 use Rattle.integrator.specs.Starts.{system_of}
 use Rattle.integrator.specs.States.{frames_of}
-use Rattle.integrator.proofs.ForceLaws.{ArePairsOf, IsPairOf, frame_pairs, pairs_parts}
+use Rattle.integrator.proofs.ForceLaws.{IsPairOf, frame_pairs, pairs_weaker}
 use Rattle.integrator.proofs.ReturnLaws.{system-moved}
 use Rattle.engine.specs.Engines.{AreSafe}
 use Rattle.engine.specs.Ranges.{IsSafeFor}
 use Rattle.engine.specs.RunSpecification.{Follows, HasRoom, IsLevesqueVerletRun, IsPairForce, Lead, Leads, box_of, current, next_of, previous, type_at, who}
 use Rattle.engine.proofs.SpecifiedTexts.{moved_again, one_state}
 
--- ---- places and pairs of a frame
+-- ---- places of a frame
 
 -- the place of an atom of a frame whose places were mapped
 pub place_mapped : (f : Place3 → Place3) (frame : List Place3) (a : ℕ) → a < length frame → places_of (map f frame) a ≡ f (places_of frame a)
 place_mapped f frame a l = get_or-map f frame a no_place no_place l
-
--- if P implies Q for each pair of n atoms, and P holds for all pairs in a list, Q holds for all pairs in the list
-pub pairs_weaker : (P Q : ℕ × ℕ → Type 0) (n : ℕ) → ((p : ℕ × ℕ) → IsPairOf n p → P p → Q p) → (ps : List (ℕ × ℕ)) → ArePairsOf n ps → All P ps → All Q ps
-pairs_weaker P Q n h [] are all = All-nil Q
-pairs_weaker P Q n h (p ∷ ps) are all =
-    let parts = pairs_parts n p ps are in
-    All-cons Q p ps (h p parts.0 (All-head P p ps all)) (pairs_weaker P Q n h ps parts.1 (All-tail P p ps all))
 
 -- ---- steps
 
