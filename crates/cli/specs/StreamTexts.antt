@@ -3,6 +3,7 @@ use Rattle.std.specs.Prelude.{◌≡◌, ◌<◌, ◌-◌, ◌^◌, ℕ, suc, Bo
 use Rattle.command_line.specs.Commands.{ReplayView}
 use Rattle.command_line.specs.declared.commands.EachOutput.{EachOutput}
 use Rattle.command_line.specs.declared.commands.EachOutput.TheVariants as shown
+use Rattle.command_line.specs.declared.commands.Quantity.{Quantity}
 use Rattle.command_line.specs.declared.commands.Quantity.TheVariants as quantity
 use Rattle.command_line.specs.declared.commands.Table.{Table}
 use Rattle.fallible.specs.Out.{Appends, Output}
@@ -13,7 +14,9 @@ use Rattle.streams.specs.Plans.{ReplayPlanView}
 use Rattle.observables.specs.declared.columns.Columns.{Columns}
 use Rattle.observables.specs.declared.columns.Columns.TheVariants.{Decimals, DecimalsAndTensor, WholeNumbers, WholeNumbersAndTensor}
 use Rattle.streams.specs.Streams.{AreAccepted, OfFirst, StreamOutput}
-use Rattle.streams.specs.Texts.{ShowsEnergy, ShowsForces, ShowsVelocities}
+use Rattle.streams.specs.Texts.{ShowsQuantity}
+use Rattle.streams.specs.declared.quantities.Quantity as streams
+use Rattle.streams.specs.declared.quantities.Quantity.TheVariants.{Energy, Forces, Velocities}
 use Rattle.cli.specs.Verdicts.{HasEnergyCode}
 
 -- the columns of a table: integers with `--exact`, otherwise decimals; with `--tensor` also those of the pressure tensor
@@ -26,14 +29,18 @@ columns_by true true = WholeNumbersAndTensor
 abbrev pub columns_of : Table → Columns
 columns_of t = columns_by t.exact t.tensor
 
+-- the quantity that the arguments name
+abbrev pub shown_quantity : Quantity → streams.Quantity
+shown_quantity quantity.Energy = Energy
+shown_quantity quantity.Forces = Forces
+shown_quantity quantity.Velocities = Velocities
+
 -- how `--each` shows a state: by its frame with its time, by a row of one table, or behind a line with its step by its
 -- energy, the forces on its atoms, or their velocities
 abbrev pub shows_of : EachOutput → Showing
 shows_of shown.Frame = ShowsFrame
 shows_of (shown.Row t) = ShowsTable (columns_of t)
-shows_of (shown.Measured quantity.Energy) = ShowsEnergy
-shows_of (shown.Measured quantity.Forces) = ShowsForces
-shows_of (shown.Measured quantity.Velocities) = ShowsVelocities
+shows_of (shown.Measured q) = ShowsQuantity (shown_quantity q)
 
 -- the plan of `replay`: which segments of a stream it compares with their runs
 abbrev pub plan_of_replay : ReplayView → ReplayPlanView

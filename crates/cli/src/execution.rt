@@ -123,12 +123,14 @@ fn perform<'a, R: Threads + Sync, A: Allocator + Copy + Send + Sync, F: Files, O
     match command {
         Command::Start(start) => perform_start(alloc, start, files, out),
         Command::Run(run) => perform_run(rt, alloc, &run, files, out, err),
-        Command::Trajectory(v) => perform_visits(rt, alloc, &v, &mut FrameTexts, files, out, err),
-        Command::States(v) => perform_visits(rt, alloc, &v, &mut StateTexts, files, out, err),
+        Command::Trajectory(v) => perform_visits(rt, alloc, &v, &FrameTexts, files, out, err),
+        Command::States(v) => perform_visits(rt, alloc, &v, &StateTexts, files, out, err),
         Command::Replay(replay) => perform_replay(rt, alloc, &replay, files, out, err),
         Command::Observe(o) => {
-            let mut rows = Rows::new(columns_of(o.table));
-            perform_visits(rt, alloc, &o.visits, &mut rows, files, out, err)
+            let rows = Rows {
+                columns: columns_of(o.table),
+            };
+            perform_visits(rt, alloc, &o.visits, &rows, files, out, err)
         }
         Command::Frame(frame) => perform_frame(alloc, frame, files, out),
         Command::Measure(requested) => perform_quantity(alloc, requested, files, out),

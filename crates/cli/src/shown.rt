@@ -68,7 +68,7 @@ pub(crate) fn perform_run<
 {
     let plan = Plan::of_end(run.direction, run.steps, Workers::new(run.workers));
     let shown = ShownRun { run: *run, plan };
-    perform_shown(rt, alloc, &shown, &mut StateTexts, files, out, err)
+    perform_shown(rt, alloc, &shown, &StateTexts, files, out, err)
 }
 
 /// Makes the steps of a run, and shows the states after 0, k, 2k, .. steps. With `--progress` it reports each hundredth
@@ -85,14 +85,14 @@ pub(crate) fn perform_visits<
     rt: &R,
     alloc: A,
     v: &Visits<'a>,
-    show: &mut S,
+    show: &S,
     files: &mut F,
     out: &mut O,
     err: &mut E,
 ) -> Result<(), CommandFault<'a, A>>
     requires { (O.output out.old).failed < 2 ^ 64 - 1 }
     ensures performs { Performs (F.held files.old) (F.requested files.old) (F.requested files.new)
-        (visits_action (S.shows show.old) (visits_view v.now)) (O.output out.old) (O.output out.new) result }
+        (visits_action (S.shows show.now) (visits_view v.now)) (O.output out.old) (O.output out.new) result }
     ensures reports { Reports (visits_work (visits_view v.now)) (E.output err.old) (E.output err.new) result }
 {
     let run = v.run;
@@ -114,14 +114,14 @@ fn perform_shown<
     rt: &R,
     alloc: A,
     shown: &ShownRun<'a>,
-    show: &mut S,
+    show: &S,
     files: &mut F,
     out: &mut O,
     err: &mut E,
 ) -> Result<(), CommandFault<'a, A>>
     requires { (O.output out.old).failed < 2 ^ 64 - 1 }
     ensures { ShowsFiles (F.held files.old) (F.requested files.old) (F.requested files.new) shown.now.run.job.now
-        shown.now.run.state.now (S.shows show.old) shown.now.run.progress shown.now.plan
+        shown.now.run.state.now (S.shows show.now) shown.now.run.progress shown.now.plan
         (O.output out.old) (O.output out.new) (E.output err.old) (E.output err.new) result }
 {
     let (job, state) = read_two(alloc, shown.run.job, shown.run.state, files)?;
@@ -136,12 +136,12 @@ fn show_texts<'a, R: Threads + Sync, A: Allocator + Copy + Send + Sync, S: Show<
     alloc: A,
     texts: (&[u8], &[u8]),
     shown: &ShownRun<'a>,
-    show: &mut S,
+    show: &S,
     out: &mut O,
     err: &mut E,
 ) -> Result<(), RunFault<InputFault<A>>>
     requires { (O.output out.old).failed < 2 ^ 64 - 1 }
-    ensures { RunsShown (S.shows show.old) texts.entry.0.now texts.entry.1.now shown.now.plan (O.output out.old) (O.output out.new)
+    ensures { RunsShown (S.shows show.now) texts.entry.0.now texts.entry.1.now shown.now.plan (O.output out.old) (O.output out.new)
         (ReportsSteps shown.now.run.progress (E.output err.old) (E.output err.new)) result }
 {
     let progress = shown.run.progress;

@@ -4,12 +4,11 @@ ghost use Rattle.std.specs.Prelude.{◌≡◌, ◌-◌, ◌<◌, ◌^◌};
 ghost use Rattle.std.specs.Result.{result_map_both};
 ghost use Rattle.command_line.specs.Views.{command_view, replay_view};
 ghost use Rattle.command_line.specs.declared.commands.Command.{Command};
-ghost use Rattle.command_line.specs.declared.commands.EachOutput.{EachOutput};
 ghost use Rattle.cli.specs.Actions.{action_of, stream_action, work_of};
 ghost use Rattle.cli.specs.Failures.{fault_of_stream};
 ghost use Rattle.cli.specs.Performed.{Performs};
 ghost use Rattle.cli.specs.Progress.{Reports, ReportsSteps};
-ghost use Rattle.cli.specs.StreamTexts.{plan_of_replay, shows_of};
+ghost use Rattle.cli.specs.StreamTexts.{plan_of_replay, shown_quantity};
 ghost use Rattle.streams.specs.Plans.{replay_plan_view};
 ghost use Rattle.streams.specs.Replays.{replayed_by};
 ghost use Rattle.streams.specs.Streams.{WritesStream, shown_by};
@@ -19,7 +18,7 @@ use crate::faults::CommandFault;
 use crate::files::{Files, open, read};
 use crate::progress::ProgressLines;
 use crate::shown::columns_of;
-use command_line::{Each, EachOutput, Quantity, Replay};
+use command_line::{Each, EachOutput, Replay};
 use engine::InputFault;
 use fallible::Out;
 use integrator::Workers;
@@ -27,9 +26,7 @@ use runs::{FrameTexts, Rows, Show};
 use state::Lines;
 use std::alloc::Allocator;
 use std::thread::Threads;
-use streams::{
-    EnergyTexts, ForceTexts, ReplayPlan, StreamFault, VelocityTexts, replay_states, show_states,
-};
+use streams::{Quantity, QuantityTexts, ReplayPlan, StreamFault, replay_states, show_states};
 
 /// Reads the job, opens the stream, and prints a line for each replayed segment as it is done. With `--progress` it
 /// reports each hundredth of the steps of a segment.
@@ -110,31 +107,26 @@ pub(crate) fn perform_each<'a, A: Allocator + Copy, F: Files, O: Out>(
         (action_of (command_view (Command.Each each.entry))) (O.output out.old) (O.output out.new) result }
 {
     match each.shown {
-        EachOutput::Frame => show_by(alloc, &each, &mut FrameTexts, files, out),
+        EachOutput::Frame => show_by(alloc, &each, &FrameTexts, files, out),
         EachOutput::Row { table } => {
-            show_by(alloc, &each, &mut Rows::new(columns_of(table)), files, out)
+            let columns = columns_of(table);
+            show_by(alloc, &each, &Rows { columns }, files, out)
         }
-        EachOutput::Measured { quantity } => show_quantity(alloc, &each, quantity, files, out),
+        EachOutput::Measured { quantity } => {
+            let quantity = shown_quantity(quantity);
+            show_by(alloc, &each, &QuantityTexts { alloc, quantity }, files, out)
+        }
     }
 }
 
-/// Reads the job, opens the stream, and prints a quantity of each of its states.
-fn show_quantity<'a, A: Allocator + Copy, F: Files, O: Out>(
-    alloc: A,
-    each: &Each<'a>,
-    quantity: Quantity,
-    files: &mut F,
-    out: &mut O,
-) -> Result<(), CommandFault<'a, A>>
-    requires { (O.output out.old).failed < 2 ^ 64 - 1 }
-    ensures { Performs (F.held files.old) (F.requested files.old) (F.requested files.new)
-        (stream_action (shown_by (shows_of (EachOutput.Measured quantity))) each.now.job.now each.now.states.now)
-        (O.output out.old) (O.output out.new) result }
+/// The quantity of each state that the arguments name.
+fn shown_quantity(quantity: command_line::Quantity) -> Quantity
+    ensures { result ≡ shown_quantity quantity }
 {
     match quantity {
-        Quantity::Energy => show_by(alloc, each, &mut EnergyTexts::new(alloc), files, out),
-        Quantity::Forces => show_by(alloc, each, &mut ForceTexts::new(alloc), files, out),
-        Quantity::Velocities => show_by(alloc, each, &mut VelocityTexts::new(alloc), files, out),
+        command_line::Quantity::Energy => Quantity::Energy,
+        command_line::Quantity::Forces => Quantity::Forces,
+        command_line::Quantity::Velocities => Quantity::Velocities,
     }
 }
 
@@ -142,13 +134,13 @@ fn show_quantity<'a, A: Allocator + Copy, F: Files, O: Out>(
 fn show_by<'a, A: Allocator + Copy, S: Show<A>, F: Files, O: Out>(
     alloc: A,
     each: &Each<'a>,
-    show: &mut S,
+    show: &S,
     files: &mut F,
     out: &mut O,
 ) -> Result<(), CommandFault<'a, A>>
     requires { (O.output out.old).failed < 2 ^ 64 - 1 }
     ensures { Performs (F.held files.old) (F.requested files.old) (F.requested files.new)
-        (stream_action (shown_by (S.shows show.old)) each.now.job.now each.now.states.now)
+        (stream_action (shown_by (S.shows show.now)) each.now.job.now each.now.states.now)
         (O.output out.old) (O.output out.new) result }
 {
     let job = read(alloc, each.job, files)?;

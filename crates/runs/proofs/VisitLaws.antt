@@ -9,26 +9,27 @@ use Rattle.fallible.specs.declared.failure.Failure.{Failure}
 use Rattle.fallible.specs.declared.failure.Failure.TheVariants.{Memory, Refused}
 use Rattle.fallible.proofs.Appends.{appends_both, appends_nothing}
 use Rattle.job.specs.Values.{JobValue}
+use Rattle.potential.specs.declared.faults.EnergyFault.{EnergyFault}
 use Rattle.integrator.specs.declared.faults.StepFault.TheVariants as step
+use Rattle.engine.specs.EngineEnergies.{HasNoEnergy}
 use Rattle.engine.specs.Engines.{CounterFits, CounterLeaves, EngineView, IsEngineOfTexts, Advanced}
 use Rattle.engine.specs.declared.faults.InputFault.{InputFault}
-use Rattle.engine.specs.declared.faults.InputFault.TheVariants as input
 use Rattle.engine.proofs.AdvanceLaws.{steps_add}
 use Rattle.engine.proofs.EngineLaws.{safe_texts, texts_fit, texts_leave}
 use Rattle.engine.proofs.SpecifiedRuns as specified
 use Rattle.state.specs.StateText.{state_text}
-use Rattle.runs.specs.Faults.{run_fault_of}
+use Rattle.runs.specs.Faults.{energy_fault, text_fault}
 use Rattle.runs.specs.Observations.{HasEnergy}
 use Rattle.runs.specs.Plans.{PlanView, last_text, steps_made, steps_to}
-use Rattle.runs.specs.Shown.{AreRejected, BreaksOff, FitsPlan, HasBegun, HasShown, IsEngineUnshown, IsUnready, IsUnshown, IsWayUnshown, LeavesEngine, LeavesPlan, LeftBeginning, LeftWhole, Unshown}
-use Rattle.runs.specs.Visits.{AreJoined, FailsText, IsShownBy, IsShownOfRun, IsTextOnWay, Showing, WroteText, WroteTexts}
+use Rattle.runs.specs.Shown.{AreRejected, FitsPlan, HasBegun, HasShown, IsStopped, IsUnshown, IsWayUnshown, LeavesEngine, LeavesPlan, LeftBeginning, LeftWhole, Unshown}
+use Rattle.runs.specs.Visits.{AreJoined, FailsText, IsShownOfRun, IsTextOnWay, Showing, WroteText, WroteTexts}
 use Rattle.runs.specs.Watching.{IsInTime, Report, counts_of, hundredths_behind, reports_at}
 use Rattle.runs.specs.declared.faults.RunFault.{RunFault}
 use Rattle.runs.specs.declared.faults.RunFault.TheVariants as run
-use Rattle.runs.specs.declared.halts.Halt.{Halt}
-use Rattle.runs.specs.declared.halts.Halt.TheVariants as halt
+use Rattle.runs.specs.declared.faults.TextFault.{TextFault}
+use Rattle.runs.specs.declared.faults.TextFault.TheVariants as unwritten
 use Rattle.runs.proofs.HundredthLaws.{all_reports, counts_at, hundredths-next, hundredths-zero}
-use Rattle.runs.proofs.WayLaws.{job_stays, went_up_to}
+use Rattle.runs.proofs.WayLaws.{job_stays, later_text}
 
 -- ---- texts one after the other
 
@@ -72,16 +73,15 @@ module _ (P Q : ℕ → List ℕ → Type 0) (both : (i : ℕ) (t : List ℕ) �
     told' = to h.reports h.told';
   }
 
-  whole_map : (allocates allocates' : Type 0) → (allocates → allocates')
-      → (plan : PlanView) (done : ℕ) (o m : Output) (told told' : List Report → Type 0)
+  whole_map : (allocates : Type 0) (plan : PlanView) (done : ℕ) (o m : Output) (told told' : List Report → Type 0)
       → ((reports : List Report) → told reports → told' reports) → LeftWhole allocates P plan done o m told
-      → LeftWhole allocates' Q plan done o m told'
-  whole_map allocates allocates' more plan done o m told told' to h = record {
+      → LeftWhole allocates Q plan done o m told'
+  whole_map allocates plan done o m told told' to h = record {
     count = h.count;
     few = h.few;
     no_more = h.no_more;
     up_to = h.up_to;
-    in_text = λ e. more (h.in_text e);
+    in_text = h.in_text;
     shown = shown_map plan h.count done o m told told' to h.shown;
   }
 
@@ -97,15 +97,15 @@ module _ (P Q : ℕ → List ℕ → Type 0) (both : (i : ℕ) (t : List ℕ) �
   }
 
   -- and why not all of it was
-  module _ {R : Type 0} (Fails Fails' : Failure R → Type 0) (Leaves Leaves' Begun Begun' allocates allocates' : Type 0)
+  module _ {R : Type 0} (Fails Fails' : Failure R → Type 0) (Leaves Leaves' Begun Begun' allocates : Type 0)
       (plan : PlanView) (o m : Output) (told told' : List Report → Type 0) (a : (f : Failure R) → Fails f → Fails' f)
-      (c : Leaves → Leaves') (d : Begun → Begun') (e : allocates → allocates') (to : (reports : List Report) → told reports → told' reports) where
+      (c : Leaves → Leaves') (d : Begun → Begun') (to : (reports : List Report) → told reports → told' reports) where
     pub unshown_map : (fault : RunFault R) → Unshown Fails Leaves Begun allocates P plan o m told fault
-        → Unshown Fails' Leaves' Begun' allocates' Q plan o m told' fault
+        → Unshown Fails' Leaves' Begun' allocates Q plan o m told' fault
     unshown_map (run.Rejected f) h = (a (Refused f) h.0, h.1, to [] h.2)
     unshown_map run.Memory h = (a Memory h.0, h.1, to [] h.2)
     unshown_map (run.Steps step.StepRange) h = (c h.0, h.1, to [] h.2)
-    unshown_map (run.Steps (step.Memory done)) h = (d h.0, whole_map allocates allocates' e plan done o m told told' to h.1)
+    unshown_map (run.Steps (step.Memory done)) h = (d h.0, whole_map allocates plan done o m told told' to h.1)
     unshown_map (run.Out f) h = (d h.0, beginning_map plan o m told told' to h.1)
 
 -- ---- texts and reports: `told` relates two values of a watcher, and reports can be joined
@@ -150,158 +150,98 @@ module _ {W : Type 0} (told : W → W → List Report → Type 0) (nothing : (w 
         told' = both u v w h.reports more h.told' t;
       }
 
-  -- the next text
-  next_text : (count done : ℕ) (o m r : Output) (u w : W) → HasShown IsText plan count done o m (told u w) → WroteText (IsText count) m r
-      → HasShown IsText plan (suc count) done o r (told u w)
-  next_text count done o m r u w h t = record {
-    wrote = one_more IsText count o m r h.wrote t;
-    reports = h.reports;
-    counts = h.counts;
-    in_time = h.in_time;
-    told' = h.told';
-  }
-
-  -- a stretch up to the next text, and the text
-  more_shown : (number first : ℕ) (o m r : Output) (u v w : W) → first ≤ steps_to plan number
+  -- the steps up to the next text were made
+  pub up_to_text : (number first : ℕ) (o m : Output) (u v w : W) → first ≤ steps_to plan number
       → ((i : ℕ) → i < number → steps_to plan i ≤ first)
       → HasShown IsText plan number first o m (told u v)
       → told v w (reports_at m (steps_made plan) (hundredths_behind (steps_made plan) first (steps_to plan number - first)))
-      → WroteText (IsText number) m r
-      → HasShown IsText plan (suc number) (steps_to plan number) o r (told u w)
-  more_shown number first o m r u v w few earlier h t text =
+      → HasShown IsText plan number (steps_to plan number) o m (told u w)
+  up_to_text number first o m u v w few earlier h t =
       let all : first + (steps_to plan number - first) ≡ steps_to plan number = omega (arith, few) in
-      next_text number (steps_to plan number) o m r u w
-      (subst (λ (k : ℕ). HasShown IsText plan number k o m (told u w)) all
-      (more_reports number first (steps_to plan number - first) o m u v w earlier (omega (arith, few)) h t)) text
+      subst (λ (k : ℕ). HasShown IsText plan number k o m (told u w)) all
+      (more_reports number first (steps_to plan number - first) o m u v w earlier (omega (arith, few)) h t)
 
--- ---- during the run: `Shows` is the showing at the start, and `Now` the showing at this text
+-- ---- during the run
 
-module _ (Shows Now : Showing) (same : IsShownBy Shows Now) (plan : PlanView) (e : EngineView) where
+module _ (Shows : Showing) (plan : PlanView) (e : EngineView) (number : ℕ) where
   abbrev OnWay : ℕ → List ℕ → Type 0
   OnWay = IsTextOnWay Shows plan e
 
-  -- the text of an engine that was reached is a text of the run
-  on_way : (number : ℕ) (f : EngineView) (text : List ℕ) → Advanced plan.direction (steps_to plan number) e f
-      → Now.texts f.job number f.state text → OnWay number text
-  on_way number f text went shown = record {
-    reached = f;
-    went = went;
-    shown = subst (λ (j : JobValue). Shows.texts j number f.state text) (job_stays plan.direction (steps_to plan number) e f went)
-        (same.texts f.job number f.state text shown);
-  }
+  module _ (f : EngineView) (went : Advanced plan.direction (steps_to plan number) e f) where
+    -- the text of an engine that was reached is a text of the run
+    on_way : (text : List ℕ) → Shows.texts f.job number f.state text → OnWay number text
+    on_way text shown = record {
+      reached = f;
+      went = went;
+      shown = subst (λ (j : JobValue). Shows.texts j number f.state text) (job_stays plan.direction (steps_to plan number) e f went) shown;
+    }
 
-  -- the text of the state of an engine that was reached
-  wrote_on_way : (number : ℕ) (f : EngineView) (m r : Output) → Advanced plan.direction (steps_to plan number) e f
-      → WroteText (Now.texts f.job number f.state) m r → WroteText (OnWay number) m r
-  wrote_on_way number f m r went t = record { text = t.text; shown = on_way number f t.text went t.shown; appends = t.appends }
+    module _ (o m r : Output) (told : List Report → Type 0) (h : HasShown OnWay plan number (steps_to plan number) o m told) where
+      -- the next text was written
+      pub text_wrote : WroteText (Shows.texts f.job number f.state) m r → HasShown OnWay plan (suc number) (steps_to plan number) o r told
+      text_wrote t = record {
+        wrote = one_more OnWay number o m r h.wrote (record { text = t.text; shown = on_way t.text t.shown; appends = t.appends });
+        reports = h.reports;
+        counts = h.counts;
+        in_time = h.in_time;
+        told' = h.told';
+      }
 
-  module _ {W : Type 0} (told : W → W → List Report → Type 0) (nothing : (w : W) → told w w [])
-      (both : (u v w : W) (first more : List Report) → told u v first → told v w more → told u w (first ++ more)) where
-    -- a stretch up to the next text, and the text of the state that it leads to
-    pub next_on_way : (number first : ℕ) (f : EngineView) (o m r : Output) (u v w : W) → first ≤ steps_to plan number
-        → ((i : ℕ) → i < number → steps_to plan i ≤ first) → Advanced plan.direction (steps_to plan number) e f
+      -- the next text wasn't written
+      pub text_failed : (R : Type 0) (fault : TextFault) → number ≤ last_text plan → FitsPlan plan e
+          → FailsText (Shows.texts f.job number f.state) Shows.allocates m r fault
+          → IsWayUnshown {R = R} Shows plan e o r told (text_fault (steps_to plan number) fault)
+      text_failed R unwritten.Memory few fits fails = (
+        fits,
+        record {
+          count = number;
+          few = few;
+          no_more = λ i less. later_text plan i number (omega (arith, less));
+          up_to = omega arith;
+          in_text = λ _. fails.0;
+          shown = subst (λ (x : Output). HasShown OnWay plan number (steps_to plan number) o x told) (sym fails.1) h;
+        },
+      )
+      text_failed R (unwritten.Out fault) few fits fails = (
+        fits,
+        record {
+          count = number;
+          few = few;
+          between = m;
+          shown = h;
+          began = record { text = fails.text; shown = on_way fails.text fails.shown; beginning = fails.beginning };
+        },
+      )
+
+    -- the engine after a text that wasn't written
+    pub text_leaves : (R : Type 0) (fault : TextFault) → number ≤ last_text plan
+        → LeavesEngine {R = R} plan e f (text_fault (steps_to plan number) fault)
+    text_leaves R unwritten.Memory few = went
+    text_leaves R (unwritten.Out fault) few = (number, few, went)
+
+  module _ (first made done : ℕ) (f g : EngineView) (stopped : IsStopped plan.direction first (steps_to plan number - first) made f g done) where
+    -- memory ran out on the way to the next text
+    pub way_stopped : {W : Type 0} (told : W → W → List Report → Type 0) (nothing : (w : W) → told w w [])
+        (both : (u v w : W) (first more : List Report) → told u v first → told v w more → told u w (first ++ more))
+        (o m : Output) (u v w : W) → number ≤ last_text plan → FitsPlan plan e → ((i : ℕ) → i < number → steps_to plan i ≤ first)
         → HasShown OnWay plan number first o m (told u v)
-        → told v w (reports_at m (steps_made plan) (hundredths_behind (steps_made plan) first (steps_to plan number - first)))
-        → WroteText (Now.texts f.job number f.state) m r → HasShown OnWay plan (suc number) (steps_to plan number) o r (told u w)
-    next_on_way number first f o m r u v w within earlier went shown t text =
-        more_shown told nothing both OnWay plan number first o m r u v w within earlier shown t (wrote_on_way number f m r went text)
-
-    -- the outputs after a state was reached whose text wasn't written
-    text_failed : (R : Type 0) (number : ℕ) (f : EngineView) (o m r : Output) (u w : W) (h : Halt) → number ≤ last_text plan
-        → FitsPlan plan e → Advanced plan.direction (steps_to plan number) e f
-        → HasShown OnWay plan number (steps_to plan number) o m (told u w) → ((i : ℕ) → i < number → steps_to plan i ≤ steps_to plan number)
-        → FailsText (Now.texts f.job number f.state) Now.allocates (steps_to plan number) m r h
-        → IsWayUnshown {R = R} Shows plan e o r (told u w) (run_fault_of h)
-    text_failed R number f o m r u w (halt.Memory done) few fits went shown earlier fails = (
-      fits,
-      subst (λ (k : ℕ). LeftWhole Shows.allocates OnWay plan k o r (told u w)) (sym fails.0)
-          (record {
-            count = number;
-            few = few;
-            no_more = earlier;
-            up_to = omega arith;
-            in_text = λ _. same.allocates fails.1;
-            shown = subst (λ (x : Output). HasShown OnWay plan number (steps_to plan number) o x (told u w)) (sym fails.2) shown;
-          }),
-    )
-    text_failed R number f o m r u w (halt.Out fault) few fits went shown earlier fails = (
-      fits,
-      record {
-        count = number;
-        few = few;
-        between = m;
-        shown = shown;
-        began = record { text = fails.text; shown = on_way number f fails.text went fails.shown; beginning = fails.beginning };
-      },
-    )
-
-    -- the outputs after a run ended early
-    pub broke_off : (R : Type 0) (number first : ℕ) (f g : EngineView) (o m r : Output) (u v w : W) (h : Halt) → number ≤ last_text plan
-        → FitsPlan plan e → first ≤ steps_to plan number
-        → ((i : ℕ) → i < number → steps_to plan i ≤ first) → Advanced plan.direction first e f → HasShown OnWay plan number first o m (told u v)
-        → BreaksOff Now plan number first f g m r (told v w) h → IsWayUnshown {R = R} Shows plan e o r (told u w) (run_fault_of h)
-    broke_off R number first f g o m r u v w h few fits within earlier went shown (inl (made, stopped, kept, t)) =
+        → told v w (reports_at m (steps_made plan) (hundredths_behind (steps_made plan) first made))
+        → FitsPlan plan e × LeftWhole Shows.allocates OnWay plan done o m (told u w)
+    way_stopped told nothing both o m u v w few fits earlier h t =
         let short = stopped.few in
-        let left : LeftWhole Shows.allocates OnWay plan (first + made) o r (told u w) = record {
+        let left : LeftWhole Shows.allocates OnWay plan (first + made) o m (told u w) = record {
           count = number;
           few = few;
           no_more = λ i l. let a = earlier i l in omega (arith, a);
           up_to = omega (arith, short);
           in_text = λ all. absurd (omega (arith, short, all));
-          shown = subst (λ (x : Output). HasShown OnWay plan number (first + made) o x (told u w)) (sym kept)
-              (more_reports told nothing both OnWay plan number first made o m u v w earlier (omega (arith, short)) shown t);
-        } in
-        subst (λ (x : Halt). IsWayUnshown {R = R} Shows plan e o r (told u w) (run_fault_of x)) (sym stopped.is) (fits, left)
-    broke_off R number first f g o m r u v w h few fits within earlier went shown (inr (more, fails, t)) =
-        let all : first + (steps_to plan number - first) ≡ steps_to plan number = omega (arith, within) in
-        text_failed R number g o m r u w h few fits (went_up_to plan.direction first (steps_to plan number) e f g within went more)
-        (subst (λ (k : ℕ). HasShown OnWay plan number k o m (told u w)) all
-        (more_reports told nothing both OnWay plan number first (steps_to plan number - first) o m u v w earlier (omega (arith, within))
-        shown t))
-        (λ i l. let a = earlier i l in omega (arith, a, within)) fails
+          shown = more_reports told nothing both OnWay plan number first made o m u v w earlier (omega (arith, short)) h t;
+        } in (fits, subst (λ (k : ℕ). LeftWhole Shows.allocates OnWay plan k o m (told u w)) (sym stopped.is) left)
 
-    -- and the engine that it leaves
-    pub broke_at : (R : Type 0) (number first : ℕ) (f g : EngineView) (m r : Output) (v w : W) (h : Halt) → number ≤ last_text plan
-        → first ≤ steps_to plan number → Advanced plan.direction first e f
-        → BreaksOff Now plan number first f g m r (told v w) h → LeavesEngine {R = R} plan e g (run_fault_of h)
-    broke_at R number first f g m r v w h few within went (inl (made, stopped, kept, t)) =
-        subst (λ (x : Halt). LeavesEngine {R = R} plan e g (run_fault_of x)) (sym stopped.is)
-        (steps_add plan.direction first made e f g went stopped.went)
-    broke_at R number first f g m r v w (halt.Memory done) few within went (inr (more, fails, t)) =
-        subst (λ (k : ℕ). Advanced plan.direction k e g) (sym fails.0)
-        (went_up_to plan.direction first (steps_to plan number) e f g within went more)
-    broke_at R number first f g m r v w (halt.Out fault) few within went (inr (more, fails, t)) =
-        (number, few, went_up_to plan.direction first (steps_to plan number) e f g within went more)
-
--- ---- of an engine
-
--- a showing shows itself
-pub as_it_is : (Shows : Showing) → IsShownBy Shows Shows
-as_it_is Shows = record { texts = λ _ _ _ _ t. t; allocates = λ a. a }
-
--- a showing that shows what another shows, which shows what a third shows
-pub shown_by_both : {A B C : Showing} → IsShownBy A B → IsShownBy B C → IsShownBy A C
-shown_by_both first second = record {
-  texts = λ job k s text t. first.texts job k s text (second.texts job k s text t);
-  allocates = λ a. first.allocates (second.allocates a);
-}
-
--- a text on the way is one of any showing that shows it as well
-pub on_way_map : (Shows Now : Showing) → IsShownBy Shows Now → (plan : PlanView) (e : EngineView) (number : ℕ) (text : List ℕ)
-    → IsTextOnWay Now plan e number text → IsTextOnWay Shows plan e number text
-on_way_map Shows Now same plan e number text h = record
-    { reached = h.reached; went = h.went; shown = same.texts e.job number h.reached.state text h.shown }
-
--- A fault that explains missing texts of the prepared view `Now` explains missing texts of `Shows`.
-pub engine_unshown : {A : Type 0} (Shows Now : Showing) → IsShownBy Shows Now
-    → (plan : PlanView) (e : EngineView) (o r : Output) (told : List Report → Type 0) → (Shows.observes → HasEnergy e)
-    → (fault : RunFault (InputFault A)) → IsWayUnshown Now plan e o r told fault → IsEngineUnshown Shows plan e o r told fault
-engine_unshown {A} Shows Now same plan e o r told energy =
-    unshown_map (IsTextOnWay Now plan e) (IsTextOnWay Shows plan e) (on_way_map Shows Now same plan e)
-    {R = InputFault A} (λ _. ⊥) (λ failure. IfRefused failure (IsUnready Shows e))
-    (LeavesPlan plan e) ((Shows.observes → HasEnergy e) × LeavesPlan plan e)
-    (FitsPlan plan e) ((Shows.observes → HasEnergy e) × FitsPlan plan e) Now.allocates Shows.allocates
-    plan o r told told (λ _ none. absurd none) (λ h. (energy, h)) (λ h. (energy, h)) same.allocates (λ _ t. t)
+    -- and the engine then
+    pub stopped_leaves : Advanced plan.direction first e f → Advanced plan.direction done e g
+    stopped_leaves went =
+        subst (λ (k : ℕ). Advanced plan.direction k e g) (sym stopped.is) (steps_add plan.direction first made e f g went stopped.went)
 
 -- ---- from bytes
 
@@ -323,34 +263,27 @@ shown_on_way Shows job state plan e t number text h =
       shown = subst (λ (v : EngineView). Shows.texts v.job number h.reached.state text) t.it.is h.shown;
     }
 
--- If the states of the engine of these texts can't be shown, the states of their runs can't be shown.
-texts_unready : {A : Type 0} (Shows : Showing) (job state : List ℕ) (e : EngineView) → IsEngineOfTexts job state e
-    → (failure : Failure (InputFault A)) → IfRefused failure (IsUnready Shows e) → IfRefused failure (AreRejected Shows job state)
-texts_unready Shows job state e t (Refused (input.Energy f)) h = inr (h.0, record { engine = e; opens = t; why = h.1 })
-texts_unready Shows job state e t (Refused (input.Job f)) h = absurd h
-texts_unready Shows job state e t (Refused (input.State f)) h = absurd h
-texts_unready Shows job state e t (Refused (input.System f)) h = absurd h
-texts_unready Shows job state e t (Refused input.ForceRange) h = absurd h
-texts_unready Shows job state e t Memory h = tt
+-- the energy itself has no accepted code
+pub energy_unshown : {A : Type 0} (Shows : Showing) (job state : List ℕ) (plan : PlanView) (e : EngineView) → IsEngineOfTexts job state e
+    → (o : Output) (told : List Report → Type 0) → told [] → (failure : Failure (EnergyFault A))
+    → IfRefused failure (λ f. Shows.observes × HasNoEnergy e f) → IsUnshown Shows job state plan o o told (energy_fault failure)
+energy_unshown Shows job state plan e t o told none (Refused f) h =
+    (inr (h.0, record { engine = e; opens = t; why = h.1 }), refl, none)
+energy_unshown Shows job state plan e t o told none Memory h = (tt, refl, none)
 
 -- A fault that explains missing texts of the engine of a job and a state explains missing texts of their runs.
 pub texts_unshown : {A : Type 0} (Shows : Showing) (job state : List ℕ) (plan : PlanView) (e : EngineView) (o r : Output)
-    (told : List Report → Type 0) → IsEngineOfTexts job state e → (fault : RunFault (InputFault A))
-    → IsEngineUnshown Shows plan e o r told fault → IsUnshown Shows job state plan o r told fault
-texts_unshown {A} Shows job state plan e o r told t =
-    let safe = safe_texts job state e t in
+    (told : List Report → Type 0) → IsEngineOfTexts job state e → (Shows.observes → HasEnergy e) → (fault : RunFault (InputFault A))
+    → IsWayUnshown Shows plan e o r told fault → IsUnshown Shows job state plan o r told fault
+texts_unshown {A} Shows job state plan e o r told t energy =
+    let begun : HasBegun Shows job state =
+    (safe_texts job state e t, λ observes. record { engine = e; opens = t; has = energy observes }) in
+    let Fails : Failure (InputFault A) → Type 0 = λ failure. IfRefused failure (AreRejected Shows job state) in
     unshown_map (IsTextOnWay Shows plan e) (IsShownOfRun Shows job state plan) (shown_on_way Shows job state plan e t)
-    {R = InputFault A} _ _ _ _ _ _ _ _ plan o r told told (texts_unready Shows job state e t)
-    (λ h. (
-      (safe, λ observes. record { engine = e; opens = t; has = h.0 observes }),
-      texts_leave job state plan.direction plan.steps e t
-          h.1,
-    ))
-    (λ h. (
-      (safe, λ observes. record { engine = e; opens = t; has = h.0 observes }),
-      texts_fit job state plan.direction plan.steps e t
-          h.1,
-    )) (λ a. a) (λ _ t. t)
+    {R = InputFault A} (λ _. ⊥) Fails (LeavesPlan plan e) (HasBegun Shows job state × CounterLeaves job state plan.direction plan.steps)
+    (FitsPlan plan e) (HasBegun Shows job state × CounterFits job state plan.direction plan.steps) Shows.allocates plan o r told told
+    (λ _ none. absurd none) (λ leaves. (begun, texts_leave job state plan.direction plan.steps e t leaves))
+    (λ fits. (begun, texts_fit job state plan.direction plan.steps e t fits)) (λ _ t. t)
 
 -- a statement about the reports of a watcher implies each weaker one
 pub unshown_told : {A : Type 0} (Shows : Showing) (job state : List ℕ) (plan : PlanView) (o r : Output)
@@ -361,4 +294,4 @@ unshown_told {A} Shows job state plan o r told told' to =
     let Leaves : Type 0 = HasBegun Shows job state × CounterLeaves job state plan.direction plan.steps in
     let Begun : Type 0 = HasBegun Shows job state × CounterFits job state plan.direction plan.steps in
     unshown_map (IsShownOfRun Shows job state plan) (IsShownOfRun Shows job state plan) (λ _ _ shown. shown) {R = InputFault A}
-    Fails Fails Leaves Leaves Begun Begun Shows.allocates Shows.allocates plan o r told told' (λ _ h. h) (λ h. h) (λ h. h) (λ h. h) to
+    Fails Fails Leaves Leaves Begun Begun Shows.allocates plan o r told told' (λ _ h. h) (λ h. h) (λ h. h) to

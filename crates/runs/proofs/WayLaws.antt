@@ -11,8 +11,6 @@ use Rattle.engine.specs.Engines.{EngineView, Advanced}
 use Rattle.engine.proofs.AdvanceLaws.{counters_add, steps_add}
 use Rattle.runs.specs.Plans.{PlanView, steps_to}
 use Rattle.runs.specs.Shown.{IsStopped}
-use Rattle.runs.specs.declared.halts.Halt.{Halt}
-use Rattle.runs.specs.declared.halts.Halt.TheVariants as halt
 
 -- ---- the counter
 
@@ -65,12 +63,10 @@ later_text plan k number few = let l : k * plan.every ≤ number * plan.every = 
 -- ---- early stops
 
 -- memory that runs out in a later part of a stretch
-pub stopped_later : (w : Direction) (first steps made more k : ℕ) (e f g : EngineView) (h : Halt) → made + more ≤ steps → Advanced w made e f
-    → IsStopped w (first + made) more k f g h → IsStopped w first steps (made + k) e g h
-stopped_later w first steps made more k e f g h within went stopped =
-    let all : first + made + k ≡ first + (made + k) = omega arith in
-    record {
-      few = omega (arith, within, stopped.few);
-      went = steps_add w made k e f g went stopped.went;
-      is = stopped.is ∙ ap halt.Memory all;
-    }
+pub stopped_later : (w : Direction) (first steps made more k done : ℕ) (e f g : EngineView) → made + more ≤ steps → Advanced w made e f
+    → IsStopped w (first + made) more k f g done → IsStopped w first steps (made + k) e g done
+stopped_later w first steps made more k done e f g within went stopped = record {
+  few = omega (arith, within, stopped.few);
+  went = steps_add w made k e f g went stopped.went;
+  is = omega (arith, stopped.is);
+}

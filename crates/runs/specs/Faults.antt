@@ -1,4 +1,5 @@
 -- Faults of runs that come from failed calls.
+use Rattle.std.specs.Prelude.{ℕ}
 use Rattle.engine.specs.declared.faults.InputFault.{InputFault}
 use Rattle.engine.specs.declared.faults.InputFault.TheVariants as input
 use Rattle.fallible.specs.declared.failure.Failure.{Failure}
@@ -7,13 +8,13 @@ use Rattle.integrator.specs.declared.faults.StepFault.TheVariants as step
 use Rattle.potential.specs.declared.faults.EnergyFault.{EnergyFault}
 use Rattle.runs.specs.declared.faults.RunFault.{RunFault}
 use Rattle.runs.specs.declared.faults.RunFault.TheVariants as run
-use Rattle.runs.specs.declared.halts.Halt.{Halt}
-use Rattle.runs.specs.declared.halts.Halt.TheVariants as halt
+use Rattle.runs.specs.declared.faults.TextFault.{TextFault}
+use Rattle.runs.specs.declared.faults.TextFault.TheVariants as unwritten
 
--- the fault of a run that has begun and halted
-abbrev pub run_fault_of : {R : Type 0} → Halt → RunFault R
-run_fault_of (halt.Memory done) = run.Steps (step.Memory done)
-run_fault_of (halt.Out f) = run.Out f
+-- the fault of a run whose text after `steps` steps wasn't written
+abbrev pub text_fault : {R : Type 0} → (steps : ℕ) → TextFault → RunFault R
+text_fault steps unwritten.Memory = run.Steps (step.Memory steps)
+text_fault steps (unwritten.Out f) = run.Out f
 
 -- the fault if the input is rejected, or if memory ran out before a run began
 abbrev pub input_fault : {R : Type 0} → Failure R → RunFault R

@@ -17,8 +17,6 @@ use Rattle.runs.specs.Visits.{BeganText, FailsText, IsShownOfRun, IsTextOnWay, S
 use Rattle.runs.specs.Watching.{IsInTime, Report, counts_of, hundredths_behind, reports_at}
 use Rattle.runs.specs.declared.faults.RunFault.{RunFault}
 use Rattle.runs.specs.declared.faults.RunFault.TheVariants as run
-use Rattle.runs.specs.declared.halts.Halt.{Halt}
-use Rattle.runs.specs.declared.halts.Halt.TheVariants as halt
 
 -- ---- texts and reports
 
@@ -55,22 +53,12 @@ pub record LeftBeginning (IsText : ℕ → List ℕ → Type 0) (plan : PlanView
   pub shown : HasShown IsText plan count (steps_to plan count) before between told
   pub began : BeganText (IsText count) between after
 
--- Memory ran out `made` steps after the first `first` ones, in a stretch of `steps` steps of an engine.
-pub record IsStopped (direction : Direction) (first steps made : ℕ) (e f : EngineView) (h : Halt) : Type 0 where
+-- Memory ran out `made` steps after the first `first` ones, in a stretch of `steps` steps of an engine; `done` steps
+-- are made in all.
+pub record IsStopped (direction : Direction) (first steps made : ℕ) (e f : EngineView) (done : ℕ) : Type 0 where
   pub few : made < steps
   pub went : Advanced direction made e f
-  pub is : h ≡ halt.Memory (first + made)
-
--- A run broke off on its way from the state after `first` steps to the text with this number. Memory ran out in the
--- steps; or the state was reached, and its text wasn't written. The reports cover exactly the steps that were made.
-abbrev pub BreaksOff : Showing → PlanView → (number first : ℕ) → (e f : EngineView) → (before after : Output)
-    → (told : List Report → Type 0) → Halt → Type 0
-BreaksOff Shows plan number first e f before after told h =
-    ((made : ℕ) × IsStopped plan.direction first (steps_to plan number - first) made e f h
-    × (after ≡ before) × told (reports_at before (steps_made plan) (hundredths_behind (steps_made plan) first made)))
-    ⊎ (Advanced plan.direction (steps_to plan number - first) e f
-    × FailsText (Shows.texts f.job number f.state) Shows.allocates (steps_to plan number) before after h
-    × told (reports_at before (steps_made plan) (hundredths_behind (steps_made plan) first (steps_to plan number - first))))
+  pub is : done ≡ first + made
 
 -- ---- faults
 
@@ -96,23 +84,11 @@ FitsPlan plan e = is_none (counter_after plan.direction e.state.step plan.steps)
 abbrev pub LeavesPlan : PlanView → EngineView → Type 0
 LeavesPlan plan e = counter_after plan.direction e.state.step plan.steps ≡ None
 
--- why not all states of an engine were shown, once that is prepared
+-- why not all states of an engine were shown, once its observer is kept
 abbrev pub IsWayUnshown : {R : Type 0} → Showing → PlanView → EngineView → (before after : Output)
     → (told : List Report → Type 0) → RunFault R → Type 0
 IsWayUnshown {R} Shows plan e before after told =
     Unshown {R = R} (λ _. ⊥) (LeavesPlan plan e) (FitsPlan plan e)
-    Shows.allocates (IsTextOnWay Shows plan e) plan before after told
-
--- why the states of an engine can't be shown: their texts have energies, and the energy itself has no accepted code
-abbrev pub IsUnready : {A : Type 0} → Showing → EngineView → InputFault A → Type 0
-IsUnready Shows e = IsOfEnergy (λ f. Shows.observes × HasNoEnergy e f)
-
--- why not all states of an engine were shown; the code of the energy itself comes before the steps
-abbrev pub IsEngineUnshown : {A : Type 0} → Showing → PlanView → EngineView → (before after : Output)
-    → (told : List Report → Type 0) → RunFault (InputFault A) → Type 0
-IsEngineUnshown {A} Shows plan e before after told =
-    Unshown {R = InputFault A} (λ failure. IfRefused failure (IsUnready Shows e))
-    ((Shows.observes → HasEnergy e) × LeavesPlan plan e) ((Shows.observes → HasEnergy e) × FitsPlan plan e)
     Shows.allocates (IsTextOnWay Shows plan e) plan before after told
 
 -- The engine that visits leave which end with this fault: unchanged if the counter would leave 64 bits, and otherwise

@@ -8,8 +8,8 @@ use Rattle.state.specs.StateText.{StateView}
 use Rattle.engine.specs.Engines.{EngineView, Advanced}
 use Rattle.engine.specs.RunSpecification.{IsLevesqueVerletRun, IsTextOf}
 use Rattle.runs.specs.Plans.{PlanView, steps_to}
-use Rattle.runs.specs.declared.halts.Halt.{Halt}
-use Rattle.runs.specs.declared.halts.Halt.TheVariants as halt
+use Rattle.runs.specs.declared.faults.TextFault.{TextFault}
+use Rattle.runs.specs.declared.faults.TextFault.TheVariants as unwritten
 
 -- ---- the text that shows a state
 
@@ -19,12 +19,6 @@ pub record Showing : Type 1 where
   pub texts : (job : JobValue) → (number : ℕ) → StateView → (text : List ℕ) → Type 0
   pub allocates : Type 0
   pub observes : Type 0
-
--- every text according to `one` is a text according to `other`, and `other` allocates if `one` does
-pub record IsShownBy (other one : Showing) : Type 0 where
-  pub texts : (job : JobValue) (number : ℕ) (s : StateView) (text : List ℕ) → one.texts job number s text
-      → other.texts job number s text
-  pub allocates : one.allocates → other.allocates
 
 -- a text of this kind was written
 pub record WroteText (IsText : List ℕ → Type 0) (before after : Output) : Type 0 where
@@ -38,11 +32,10 @@ pub record BeganText (IsText : List ℕ → Type 0) (before after : Output) : Ty
   pub shown : IsText text
   pub beginning : AppendsBeginning before after text
 
--- why the text of a state after `steps` steps wasn't written, and the output after the fault
-abbrev pub FailsText : (IsText : List ℕ → Type 0) → (Allocates : Type 0) → (steps : ℕ) → (before after : Output)
-    → Halt → Type 0
-FailsText IsText Allocates steps before after (halt.Memory done) = (done ≡ steps) × Allocates × (after ≡ before)
-FailsText IsText Allocates steps before after (halt.Out f) = BeganText IsText before after
+-- why the text of a state wasn't written, and the output after the fault
+abbrev pub FailsText : (IsText : List ℕ → Type 0) → (Allocates : Type 0) → (before after : Output) → TextFault → Type 0
+FailsText IsText Allocates before after unwritten.Memory = Allocates × (after ≡ before)
+FailsText IsText Allocates before after (unwritten.Out f) = BeganText IsText before after
 
 -- ---- texts one after another
 

@@ -1,13 +1,14 @@
 //! Errors of runs.
 
 ghost use Rattle.std.specs.Prelude.{◌≡◌};
-ghost use Rattle.runs.specs.Faults.{energy_fault, input_fault};
+ghost use Rattle.runs.specs.Faults.{energy_fault, input_fault, text_fault};
+ghost use Rattle.runs.specs.declared.faults.TextFault.TheVariants as unwritten;
 
 use engine::InputFault;
 use fallible::{Failure, OutFault};
 use integrator::StepFault;
 use potential::EnergyFault;
-use std::alloc::Allocator;
+use std::alloc::{AllocError, Allocator};
 use std::error::Error;
 use std::fmt;
 
@@ -64,5 +65,40 @@ impl<A: Allocator> From<Failure<EnergyFault<A>>> for RunFault<InputFault<A>> {
             Failure::Refused(fault) => RunFault::Rejected(InputFault::Energy(fault)),
             Failure::Memory => RunFault::Memory,
         }
+    }
+}
+
+/// Why the text of a state wasn't written.
+#[derive(Clone, Copy)]
+pub enum TextFault {
+    /// Memory ran out. The output is unchanged.
+    Memory,
+    /// The output failed, after a beginning of the text.
+    Out(OutFault),
+}
+
+impl From<AllocError> for TextFault {
+    ghost from_gives = { λ _ e. e ≡ unwritten.Memory };
+
+    fn from(_e: AllocError) -> TextFault {
+        TextFault::Memory
+    }
+}
+
+impl From<OutFault> for TextFault {
+    ghost from_gives = { λ fault e. e ≡ unwritten.Out fault };
+
+    fn from(fault: OutFault) -> TextFault {
+        TextFault::Out(fault)
+    }
+}
+
+/// The fault of a run whose text after `steps` steps wasn't written.
+pub(crate) fn text_fault<R>(steps: u64, fault: TextFault) -> RunFault<R>
+    ensures { result ≡ text_fault steps fault }
+{
+    match fault {
+        TextFault::Memory => RunFault::Steps(StepFault::Memory { done: steps }),
+        TextFault::Out(fault) => RunFault::Out(fault),
     }
 }

@@ -5,14 +5,14 @@ ghost use Rattle.gro.specs.Frames.{frame_view};
 ghost use Rattle.state.specs.StateViews.{state_view};
 ghost use Rattle.runs.specs.Frames.{IsTimedFrame, ShowsFrame};
 
+use crate::faults::TextFault;
 use crate::frame_titles::timed_title;
-use crate::halts::Halt;
+use crate::kept_observers::KeptObserver;
 use crate::showing::Show;
 use engine::Engine;
-use fallible::{Failure, Out};
+use fallible::Out;
 use gro::{GroFrame, write};
 use job::TimeStep;
-use potential::EnergyFault;
 use state::State;
 use std::alloc::{AllocError, Allocator};
 
@@ -44,28 +44,20 @@ pub struct FrameTexts;
 impl<A: Allocator + Copy> Show<A> for FrameTexts {
     ghost shows = { λ _. ShowsFrame };
 
-    ghost is_for = { λ _ _. Unit {0} };
-
-    fn prepare(&mut self, _engine: &mut Engine<A>) -> Result<(), Failure<EnergyFault<A>>> {
-        Ok(())
+    fn observes(&self) -> bool {
+        false
     }
 
     fn show<O: Out>(
-        &mut self,
+        &self,
         engine: &mut Engine<A>,
+        _observer: &KeptObserver<A>,
         _number: u64,
-        steps: u64,
         out: &mut O,
-    ) -> Result<(), Halt> {
+    ) -> Result<(), TextFault> {
         let time_step = engine.time_step();
-        let Ok(frame) = timed_frame(engine.state(), time_step) else {
-            return Err(Halt::Memory { done: steps });
-        };
+        let frame = timed_frame(engine.state(), time_step)?;
         write(&frame, out)?;
         Ok(())
     }
-
-    ghost ready_after_steps = { λ _ _ _ _ _ _ _. tt };
-
-    ghost ready_for_other_state = { λ _ _ _ _ _ _. tt };
 }

@@ -1,18 +1,19 @@
 //! Observers that are kept from one shown state to the next.
 
-ghost use Rattle.std.specs.Prelude.{◌≡◌, Some, None, is_some, true, OnOk, IfErr};
+ghost use Rattle.std.specs.Prelude.{◌≡◌, Some, is_some, true, IfErr, IfOk};
 ghost use Rattle.fallible.specs.Failures.{IfRefused};
 ghost use Rattle.engine.specs.EngineEnergies.{HasNoEnergy};
-ghost use Rattle.runs.specs.Observations.{HasEnergy, IsTyped};
+ghost use Rattle.runs.specs.Observations.{IsTyped};
 ghost use Rattle.runs.specs.Readiness.{IsReady};
 
+use crate::showing::Show;
 use engine::{Engine, Observer};
 use fallible::Failure;
 use potential::EnergyFault;
 use std::alloc::Allocator;
 use std::marker::Model;
 
-/// The observer of an engine, kept for all states that are shown.
+/// The observer of an engine, kept for all states that are shown, if their texts have energies.
 #[derive(Drop)]
 pub struct KeptObserver<A: Allocator + Copy> {
     observer: Option<Observer<A>>,
@@ -28,28 +29,29 @@ impl<A: Allocator + Copy> Model for KeptObserver<A> {
 }
 
 impl<A: Allocator + Copy> KeptObserver<A> {
-    /// No observer yet.
-    pub fn none() -> KeptObserver<A>
-        ensures { result ≡ None }
-    {
-        KeptObserver { observer: None }
-    }
-
-    /// Makes the observer of an engine, and keeps it.
+    /// Makes the observer of an engine, if texts of this kind need it.
     ///
     /// `Refused`: the code of the energy itself would be too large, or the verifier rejects it. `Memory`: memory ran
     /// out.
-    pub fn prepare(&mut self, engine: &Engine<A>) -> Result<(), Failure<EnergyFault<A>>>
+    pub fn new<S: Show<A>>(
+        show: &S,
+        engine: &Engine<A>,
+    ) -> Result<KeptObserver<A>, Failure<EnergyFault<A>>>
         requires typed { IsTyped engine.now }
-        ensures ready { OnOk result (IsReady self.new engine.now) }
-        ensures energy { OnOk result (HasEnergy engine.now) }
-        ensures refused { IfErr result (λ failure. IfRefused failure (HasNoEnergy engine.now)) }
+        ensures ready { IfOk result (λ kept. IsReady (S.shows show.now).observes kept engine.now) }
+        ensures refused { IfErr result (λ failure. IfRefused failure
+            (λ f. (S.shows show.now).observes × HasNoEnergy engine.now f)) }
     {
-        self.observer = Some(engine.observer()?);
-        Ok(())
+        if !show.observes() {
+            return Ok(KeptObserver { observer: None });
+        }
+        let observer = engine.observer()?;
+        Ok(KeptObserver {
+            observer: Some(observer),
+        })
     }
 
-    /// The observer that `prepare` made.
+    /// The observer, if one was made.
     pub fn observer(&self) -> &Observer<A>
         requires { is_some self.now ≡ true }
         ensures { self.now ≡ Some result.now }

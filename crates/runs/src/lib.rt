@@ -5,7 +5,6 @@
 mod faults;
 mod frame_titles;
 mod frames;
-mod halts;
 mod kept_observers;
 mod observations;
 mod plans;
@@ -17,15 +16,13 @@ mod visits;
 mod watching;
 mod whole_states;
 
-pub use faults::RunFault;
+pub use faults::{RunFault, TextFault};
 pub use frames::FrameTexts;
-pub use halts::Halt;
 pub use kept_observers::KeptObserver;
 pub use plans::Plan;
 pub use rows::Rows;
 pub use showing::Show;
 pub use shown_runs::{run_bytes, run_shown};
 pub use stretches::{until_hundredth, watched_steps};
-pub use visits::visit;
 pub use watching::{Unwatched, Watch};
 pub use whole_states::StateTexts;

@@ -3,17 +3,15 @@
 //! `run_shown` is every run: of whole states, frames or table rows, watched or not. `run_bytes` is the run that writes
 //! the state after all steps and that nobody watches; its contract is the main theorem.
 
-ghost use Rattle.std.specs.Prelude.{◌≡◌, ◌<◌, ◌-◌, ◌^◌, ℕ, List, suc, OnOk, IfErr};
+ghost use Rattle.std.specs.Prelude.{◌<◌, ◌-◌, ◌^◌, ℕ, List, OnOk, IfErr};
 ghost use Rattle.integrator.specs.Frames.{opposite};
 ghost use Rattle.engine.specs.Engines.{AreSafe};
 ghost use Rattle.engine.specs.RunSpecification.{IsLevesqueVerletRun, WroteLevesqueVerletRun};
-ghost use Rattle.runs.specs.Observations.{IsTyped};
-ghost use Rattle.runs.specs.Plans.{last_text, steps_made};
-ghost use Rattle.runs.specs.Shown.{FitsPlan, HasShown, IsEngineUnshown, RunsShown};
+ghost use Rattle.runs.specs.Shown.{RunsShown};
 ghost use Rattle.runs.specs.Unwritten.{IsRunUnwritten, IsResourceFault};
-ghost use Rattle.runs.specs.Visits.{IsTextOnWay};
 
 use crate::faults::RunFault;
+use crate::kept_observers::KeptObserver;
 use crate::plans::Plan;
 use crate::showing::Show;
 use crate::visits::visit;
@@ -33,7 +31,7 @@ use std::thread::Threads;
 /// Levesque-Verlet steps (J. Stat. Phys. 72, 519, 1993), which `run_bytes` would write. Steps after the last text are
 /// not made.
 ///
-/// The errors come in this order: `Rejected` with errors of the job, the state and `Engine::new`, then of `Show::prepare`,
+/// The errors come in this order: `Rejected` with errors of the job, the state and `Engine::new`, then of `KeptObserver::new`,
 /// or `Memory` if memory ran out in these; `Steps` with `StepRange` exactly if the counter would leave an i64 within the
 /// steps; with these no text is written, and the watcher isn't called. `Steps` with `Memory` if memory ran out after
 /// `done` steps: the texts up to there are written whole, possibly without the text after exactly `done` steps, and never
@@ -50,45 +48,17 @@ pub fn run_shown<
     job: &[u8],
     state: &[u8],
     plan: &Plan,
-    show: &mut S,
+    show: &S,
     watch: &mut W,
     out: &mut O,
 ) -> Result<(), RunFault<InputFault<A>>>
     requires count { (O.output out.old).failed < 2 ^ 64 - 1 }
-    ensures { RunsShown (S.shows show.old) job.now state.now plan.now (O.output out.old) (O.output out.new)
+    ensures { RunsShown (S.shows show.now) job.now state.now plan.now (O.output out.old) (O.output out.new)
         (W.told watch.old watch.new) result }
 {
     let mut engine = open(alloc, job, state)?;
-    prepare_and_visit(rt, &mut engine, plan, show, watch, out)
-}
-
-/// Prepares for the states of an engine, and visits them. Only the caller owns and drops the engine, since an engine has
-/// many parts, and each exit that drops one is costly to prove.
-fn prepare_and_visit<
-    R: Threads + Sync,
-    A: Allocator + Copy + Send + Sync,
-    S: Show<A>,
-    W: Watch,
-    O: Out,
->(
-    rt: &R,
-    engine: &mut Engine<A>,
-    plan: &Plan,
-    show: &mut S,
-    watch: &mut W,
-    out: &mut O,
-) -> Result<(), RunFault<InputFault<A>>>
-    requires typed { IsTyped engine.old }
-    requires count { (O.output out.old).failed < 2 ^ 64 - 1 }
-    ensures fits { OnOk result (FitsPlan plan.now engine.old) }
-    ensures shown { OnOk result (HasShown (IsTextOnWay (S.shows show.old) plan.now engine.old) plan.now
-        (suc (last_text plan.now)) (steps_made plan.now) (O.output out.old) (O.output out.new)
-        (W.told watch.old watch.new)) }
-    ensures unshown { IfErr result (IsEngineUnshown (S.shows show.old) plan.now engine.old
-        (O.output out.old) (O.output out.new) (W.told watch.old watch.new)) }
-{
-    show.prepare(engine)?;
-    visit(rt, engine, plan, show, watch, out)
+    let observer = KeptObserver::new(show, &engine)?;
+    visit(rt, &mut engine, &observer, plan, show, watch, out)
 }
 
 /// Runs a state n steps in a direction with this number of workers, and writes the new state.
@@ -136,7 +106,7 @@ pub fn run_bytes<R: Threads + Sync, A: Allocator + Copy + Send + Sync, O: Out>(
         job,
         state,
         &Plan::of_end(direction, steps, workers),
-        &mut StateTexts,
+        &StateTexts,
         &mut Unwatched,
         out,
     )

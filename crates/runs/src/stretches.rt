@@ -7,7 +7,6 @@ ghost use Rattle.integrator.specs.States.{counter_after};
 ghost use Rattle.runs.specs.Shown.{IsStopped};
 ghost use Rattle.runs.specs.Watching.{IsNextHundredth, hundredths, hundredths_behind, reports_at};
 
-use crate::halts::Halt;
 use crate::watching::Watch;
 use engine::Engine;
 use fallible::Out;
@@ -17,7 +16,7 @@ use std::thread::Threads;
 
 /// Makes n steps, after `before` earlier ones.
 ///
-/// `Memory`: memory ran out after `done` steps, including the earlier ones, and before the last.
+/// `Err`: memory ran out after this many steps, including the earlier ones, and before the last.
 fn go_on<R: Threads + Sync, A: Allocator + Copy + Send + Sync>(
     rt: &R,
     engine: &mut Engine<A>,
@@ -25,17 +24,15 @@ fn go_on<R: Threads + Sync, A: Allocator + Copy + Send + Sync>(
     steps: u64,
     workers: Workers,
     before: u64,
-) -> Result<(), Halt>
+) -> Result<(), u64>
     requires fits { is_none (counter_after direction engine.old.state.step steps) ≡ false }
     requires range { before + steps < 2 ^ 64 }
     ensures went { OnOk result (Advanced direction steps engine.old engine.new) }
-    ensures stopped { IfErr result (λ h. (made : ℕ) × IsStopped direction before steps made engine.old engine.new h) }
+    ensures stopped { IfErr result (λ done. (made : ℕ) × IsStopped direction before steps made engine.old engine.new done) }
 {
     match engine.steps_within(rt, direction, steps, workers) {
         Ok(()) => Ok(()),
-        Err(done) => Err(Halt::Memory {
-            done: before + done,
-        }),
+        Err(done) => Err(before + done),
     }
 }
 
@@ -50,7 +47,7 @@ pub fn until_hundredth(done: u64, of: u64) -> u64
 
 /// Makes n steps of a run of `of` steps, after `before` earlier ones, and calls the watcher after each hundredth.
 ///
-/// `Memory`: memory ran out after `done` steps, including the earlier ones, and before the last.
+/// `Err`: memory ran out after this many steps, including the earlier ones, and before the last.
 pub(crate) fn advance<R: Threads + Sync, A: Allocator + Copy + Send + Sync, W: Watch, O: Out>(
     rt: &R,
     engine: &mut Engine<A>,
@@ -61,13 +58,13 @@ pub(crate) fn advance<R: Threads + Sync, A: Allocator + Copy + Send + Sync, W: W
     of: u64,
     watch: &mut W,
     out: &O,
-) -> Result<(), Halt>
+) -> Result<(), u64>
     requires fits { AllFit direction engine.old.state.step steps }
     requires within { before + steps ≤ of }
     ensures went { OnOk result (Advanced direction steps engine.old engine.new) }
     ensures told { OnOk result (W.told watch.old watch.new
         (reports_at (O.output out.now) of (hundredths_behind of before steps))) }
-    ensures stopped { IfErr result (λ h. (made : ℕ) × IsStopped direction before steps made engine.old engine.new h
+    ensures stopped { IfErr result (λ done. (made : ℕ) × IsStopped direction before steps made engine.old engine.new done
         × W.told watch.old watch.new (reports_at (O.output out.now) of (hundredths_behind of before made))) }
 {
     if !watch.watches() {
@@ -89,7 +86,7 @@ pub(crate) fn advance<R: Threads + Sync, A: Allocator + Copy + Send + Sync, W: W
 
 /// Makes n steps in a direction, and calls the watcher after each hundredth of them.
 ///
-/// `Memory`: memory ran out after `done` steps, before the last; the watcher was called up to there.
+/// `Err`: memory ran out after this many steps, before the last; the watcher was called up to there.
 pub fn watched_steps<R: Threads + Sync, A: Allocator + Copy + Send + Sync, W: Watch, O: Out>(
     rt: &R,
     engine: &mut Engine<A>,
@@ -98,11 +95,11 @@ pub fn watched_steps<R: Threads + Sync, A: Allocator + Copy + Send + Sync, W: Wa
     workers: Workers,
     watch: &mut W,
     out: &O,
-) -> Result<(), Halt>
+) -> Result<(), u64>
     requires { AllFit direction engine.old.state.step steps }
     ensures went { OnOk result (Advanced direction steps engine.old engine.new) }
     ensures told { OnOk result (W.told watch.old watch.new (reports_at (O.output out.now) steps (hundredths steps))) }
-    ensures stopped { IfErr result (λ h. (made : ℕ) × IsStopped direction 0 steps made engine.old engine.new h
+    ensures stopped { IfErr result (λ done. (made : ℕ) × IsStopped direction 0 steps made engine.old engine.new done
         × W.told watch.old watch.new (reports_at (O.output out.now) steps (hundredths_behind steps 0 made))) }
 {
     advance(rt, engine, direction, steps, workers, 0, steps, watch, out)

@@ -16,7 +16,7 @@ use Rattle.integrator.proofs.StateLaws.{length-moved}
 use Rattle.state.specs.StateText.{StateView}
 use Rattle.streams.specs.Plans.{IsReplayed, ReplayPlanView}
 use Rattle.streams.specs.Replays.{segment_line}
-use Rattle.streams.specs.Segments.{Compares, IsLineTold, IsTold, compared}
+use Rattle.streams.specs.Segments.{Compares, IsEngineLine, IsEngineText, compared}
 use Rattle.streams.specs.declared.differences.Difference.{Difference}
 
 -- steps lead from an engine of a job and a state to an engine of the job and the state that they reach
@@ -49,10 +49,10 @@ bits_refused e t is other =
     (bits_unlike e.job t unlike)
 
 -- the line of a compared segment
-pub line_told : (plan : ReplayPlanView) (number : ℕ) (e taken : EngineView) (t : StateView) (d : Option Difference) (from : ℤ) (line : List ℕ)
+pub engine_line : (plan : ReplayPlanView) (number : ℕ) (e taken : EngineView) (t : StateView) (d : Option Difference) (from : ℤ) (line : List ℕ)
     → from ≡ e.state.step → line ≡ segment_line from t.step d → IsReplayed plan number from t.step
-    → Compares e t d → IsEngineOf e.job t taken → IsLineTold plan number e t line
-line_told plan number e taken t d from line first is has h safe = record {
+    → Compares e t d → IsEngineOf e.job t taken → IsEngineLine plan number e t line
+engine_line plan number e taken t d from line first is has h safe = record {
   taken = taken;
   safe = safe;
   replayed = rw first at has;
@@ -61,10 +61,10 @@ line_told plan number e taken t d from line first is has h safe = record {
   line' = rw first at is;
 }
 
--- the line that was printed
-pub told_line : (plan : ReplayPlanView) (number : ℕ) (e taken : EngineView) (t : StateView) (d : Option Difference) (from : ℤ) (line : List ℕ)
+-- what was written of it
+pub engine_text : (plan : ReplayPlanView) (number : ℕ) (e taken : EngineView) (t : StateView) (d : Option Difference) (from : ℤ) (line : List ℕ)
     (b : Bool) → from ≡ e.state.step → line ≡ segment_line from t.step d → IsReplayed plan number from t.step
-    → Compares e t d → IsEngineOf e.job t taken → b ≡ is_some d → IsTold plan number e t b line
-unfolding line_told
-told_line plan number e taken t d from line b first is has h safe differs =
-    rw differs (compared line (line_told plan number e taken t d from line first is has h safe))
+    → Compares e t d → IsEngineOf e.job t taken → b ≡ is_some d → IsEngineText plan number e t b line
+unfolding engine_line
+engine_text plan number e taken t d from line b first is has h safe differs =
+    rw differs (compared line (engine_line plan number e taken t d from line first is has h safe))

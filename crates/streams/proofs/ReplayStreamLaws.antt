@@ -8,6 +8,7 @@ use Rattle.fallible.proofs.Appends.{appends_both, appends_nothing}
 use Rattle.fallible.specs.Out.{Appends, Output}
 use Rattle.job.specs.JobText.{IsJobText, limits}
 use Rattle.job.specs.Values.{JobValue}
+use Rattle.runs.specs.Watching.{Report}
 use Rattle.state.proofs.TakeLaws.{takes_both, takes_nothing}
 use Rattle.state.specs.Sources.{IsAtEnd, KeepsFaultBefore, Left, Takes, with_text}
 use Rattle.state.specs.StateText.{StateView, state_text}
@@ -16,7 +17,7 @@ use Rattle.streams.specs.OnTheWay.{HasNoState, IsAt, OfState}
 use Rattle.streams.specs.Plans.{ReplayPlanView}
 use Rattle.streams.specs.Replays.{AreReplayed, IsLineOf, IsNextLine, IsWritten, OfCounters, and_one, begins, goes_on, replayed, replayed_by, segment_line}
 use Rattle.streams.specs.Replays as replays
-use Rattle.streams.specs.Segments.{Compares, FailsSegment, IsLineTold, IsTold, compared, passed}
+use Rattle.streams.specs.Segments.{Compares, FailsSegment, IsEngineLine, IsEngineText, ReplaysSegment, compared, passed}
 use Rattle.streams.specs.Streams.{Breaks, OfLeft, WritesStates, WritesStream}
 use Rattle.streams.specs.declared.differences.Difference.{Difference}
 use Rattle.streams.specs.declared.faults.StreamFault.{StreamFault}
@@ -120,12 +121,11 @@ module _ (plan : ReplayPlanView) (job : List ℕ) where
         line' = ap (λ (s : StateView). segment_line s.step t.step d) same;
       }
 
-      line_at : (number : ℕ) (line : List ℕ) (told : IsLineTold plan number e t line) → IsLineOf job last text told.difference line
-      line_at number line told =
-          subst (IsLineOf job last text told.difference) (sym told.line') (line_of told.difference told.compared)
+      line_at : (number : ℕ) (line : List ℕ) (h : IsEngineLine plan number e t line) → IsLineOf job last text h.difference line
+      line_at number line h = subst (IsLineOf job last text h.difference) (sym h.line') (line_of h.difference h.compared)
 
-      -- what an engine tells of a segment is to be written of it
-      pub written : (number : ℕ) (b : Bool) (line : List ℕ) → IsTold plan number e t b line → IsWritten plan job number last text b line
+      -- the engine's text of a segment is to be written of it
+      pub written : (number : ℕ) (b : Bool) (line : List ℕ) → IsEngineText plan number e t b line → IsWritten plan job number last text b line
       written number b line (passed h) =
           replays.passed (record { s = at.s; t = t; first = at.state_text'; second = is; holds = rw same at h })
       written number b line (compared x h) =
@@ -133,33 +133,31 @@ module _ (plan : ReplayPlanView) (job : List ℕ) where
           (line_at number x h)
 
       -- the engine's line of the segment is to be written next
-      pub next_line : (number : ℕ) (line : List ℕ) → e.job ≡ j → IsLineTold plan number e t line → IsNextLine plan job number last text line
-      next_line number line of_job told = record {
-        safe = at_safe job j job_text text told.taken
-            (record { s = t; state_text' = is; is = subst (λ (x : JobValue). IsEngineOf x t told.taken) of_job told.safe });
-        replayed = record { s = at.s; t = t; first = at.state_text'; second = is; holds = rw same at told.replayed };
-        difference = told.difference;
-        line = line_at number line told;
+      next_line : (number : ℕ) (line : List ℕ) → e.job ≡ j → IsEngineLine plan number e t line → IsNextLine plan job number last text line
+      next_line number line of_job h = record {
+        safe = at_safe job j job_text text h.taken
+            (record { s = t; state_text' = is; is = subst (λ (x : JobValue). IsEngineOf x t h.taken) of_job h.safe });
+        replayed = record { s = at.s; t = t; first = at.state_text'; second = is; holds = rw same at h.replayed };
+        difference = h.difference;
+        line = line_at number line h;
       }
 
-    -- the segment to the next text was told
-    unfoldable pub way_goes : (all : Left) (number differing : ℕ) (left left' : Left) (o m r : Output) (text : List ℕ) (b : Bool)
-        → Way plan job all number differing last left o m → Takes left left' text → AreSafe job text
-        → OfState text (λ t. (line : List ℕ) × IsTold plan number e t b line × Appends m r line)
-        → Way plan job all (suc number) (and_one b differing) text left' o r
-    way_goes all number differing left left' o m r text b w taken safe told = record {
+    -- the segment to the next text was replayed
+    unfoldable pub way_goes : (all : Left) (number differing : ℕ) (left left' : Left) (o m r : Output) (text : List ℕ)
+        (got : List Report → Type 0) (b : Bool) → Way plan job all number differing last left o m → Takes left left' text → AreSafe job text
+        → OfState text (ReplaysSegment plan number e m r got b) → Way plan job all (suc number) (and_one b differing) text left' o r
+    way_goes all number differing left left' o m r text got b w taken safe h = record {
       front = w.front ++ text;
-      text = w.text ++ told.it.0;
-      are = goes_on number differing w.front last w.text text told.it.0 b w.are safe
-          (written text told.s told.state_text' number b told.it.0 told.it.1);
-      appends = appends_both w.appends told.it.2;
+      text = w.text ++ h.it.line;
+      are = goes_on number differing w.front last w.text text h.it.line b w.are safe (written text h.s h.state_text' number b h.it.line h.it.is);
+      appends = appends_both w.appends h.it.appends;
       split = takes_both all left left' w.front text w.split taken;
     }
 
-    -- the segment to the next text wasn't told
+    -- the segment to the next text wasn't written
     module _ (all : Left) (number differing : ℕ) (left left' : Left) (o m r : Output) (text : List ℕ)
         (of_job : e.job ≡ j) (w : Way plan job all number differing last left o m) (taken : Takes left left' text)
-        (some : text ≢ []) (keeps : KeepsFaultBefore text left') where
+        (some : text ≢ []) (keeps : KeepsFaultBefore text left') (told : List Report → Type 0) where
       before_text : Progress (replayed_by plan job) all (suc number) (with_text text left') o m
       before_text = record {
         differing = differing;
@@ -175,31 +173,24 @@ module _ (plan : ReplayPlanView) (job : List ℕ) where
       unchanged f h after = rw after (state_stops (replayed_by plan job) job j job_text all (suc number) (number + 2) text left' o m f
           (omega arith) h some keeps before_text)
 
-      pub segment_stops : {A : Type 0} (f : StreamFault (InputFault A)) → FailsSegment plan number e text m r f
+      pub segment_stops : {A : Type 0} (f : StreamFault (InputFault A)) → FailsSegment plan number e text m r told f
           → OfLeft all (λ bytes. Breaks (replayed_by plan job) job all bytes o r f)
       unfolding before_text
       segment_stops (stream.Out f) h =
+          let began = h.it.0 in
           stops_at (replayed_by plan job) job all (suc number) text left' o m r (stream.Out f) before_text (
             text,
             rest_of left',
             refl,
             record {
-              text = h.it.text;
-              shown = (
-                number,
-                differing,
-                last,
-                w.text,
-                refl,
-                w.are,
-                next_line text h.s h.state_text' number h.it.text of_job h.it.shown,
-              );
-              beginning = h.it.beginning;
+              text = began.text;
+              shown = (number, differing, last, w.text, refl, w.are, next_line text h.s h.state_text' number began.text of_job began.shown);
+              beginning = began.beginning;
             },
           )
-      segment_stops (stream.Rejected f) h = unchanged (stream.Rejected f) h.0 h.1
       segment_stops (stream.State n f) h = unchanged (stream.State n f)
           (subst (λ (x : JobValue). HasNoState x text (number + 2) (stream.State n f)) of_job h.0) h.1
-      segment_stops (stream.Differ n) h = unchanged (stream.Differ n) h.0 h.1
-      segment_stops stream.CannotRead h = unchanged stream.CannotRead h.0 h.1
-      segment_stops stream.Memory h = unchanged stream.Memory h.0 h.1
+      segment_stops stream.Memory h = unchanged stream.Memory tt h.0
+      segment_stops (stream.Rejected f) h = absurd h
+      segment_stops (stream.Differ n) h = absurd h
+      segment_stops stream.CannotRead h = absurd h

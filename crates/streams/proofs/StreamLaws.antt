@@ -14,9 +14,9 @@ use Rattle.job.specs.JobText.{IsJobText, limits}
 use Rattle.job.specs.Values.{JobValue}
 use Rattle.potential.specs.declared.faults.EnergyFault.{EnergyFault}
 use Rattle.runs.specs.Observations.{IsTyped}
-use Rattle.runs.specs.Visits.{FailsText, IsShownBy, Showing, WroteText}
-use Rattle.runs.specs.declared.halts.Halt.{Halt}
-use Rattle.runs.specs.declared.halts.Halt.TheVariants as halt
+use Rattle.runs.specs.Visits.{FailsText, Showing, WroteText}
+use Rattle.runs.specs.declared.faults.TextFault.{TextFault}
+use Rattle.runs.specs.declared.faults.TextFault.TheVariants as unwritten
 use Rattle.state.proofs.TakeLaws.{takes_both, takes_nothing}
 use Rattle.state.specs.Sources.{IsAtEnd, KeepsFaultBefore, Left, Takes, with_text}
 use Rattle.state.specs.StateFaults.{ReadsAs}
@@ -25,8 +25,9 @@ use Rattle.state.specs.declared.faults.StateFault.{StateFault}
 use Rattle.state.specs.declared.faults.StateFault.TheVariants.{Trailing}
 use Rattle.state.specs.declared.sources.ReadFault.{ReadFault}
 use Rattle.state.specs.declared.sources.ReadFault.TheVariants as read
-use Rattle.streams.specs.Faults.{energy_fault, numbered_fault, opening_fault, reading_fault, text_fault}
+use Rattle.streams.specs.Faults.{energy_fault, opening_fault, reading_fault, text_fault}
 use Rattle.streams.specs.OnTheWay.{HasNoState, IsAt, OfState}
+use Rattle.streams.specs.Segments.{IsNotTaken}
 use Rattle.streams.specs.Streams.{Breaks, IsShownOfText, OfFirst, OfLeft, StreamOutput, Stops, WritesStates, shown_by}
 use Rattle.streams.specs.declared.faults.StreamFault.{StreamFault}
 use Rattle.streams.specs.declared.faults.StreamFault.TheVariants as stream
@@ -80,15 +81,23 @@ pub texts_job : (job text : List ℕ) (e : EngineView) → IsEngineOfTexts job t
 texts_job job text e opens =
     subst (IsJobText limits job) (sym (ap (λ (x : EngineView). x.job) opens.it.is)) opens.job_text
 
+no_engine : {A : Type 0} (j : JobValue) (text : List ℕ) (number n : ℕ) (s : StateView) → IsTextOf text s → (f : InputFault A)
+    → (n ≡ number) × IsOfState f × HasNoEngine j s f → HasNoState j text number (stream.State n f)
+no_engine j text number n s is (input.Job f) h = absurd h.1
+no_engine j text number n s is (input.State f) h = absurd h.2
+no_engine j text number n s is (input.Energy f) h = absurd h.1
+no_engine j text number n s is (input.System f) h = (h.0, tt, record { s = s; state_text' = is; it = h.2 })
+no_engine j text number n s is input.ForceRange h = (h.0, tt, record { s = s; state_text' = is; it = h.2 })
+
 -- a state that an engine doesn't take can't be run under its job
-pub not_taken : {A : Type 0} (j : JobValue) (text : List ℕ) (number : ℕ) (failure : Failure (InputFault A)) (s : StateView) → IsTextOf text s
-    → IfRefused failure (λ f. IsOfState f × HasNoEngine j s f) → HasNoState j text number (numbered_fault number failure)
-not_taken j text number (Refused (input.Job f)) s is h = absurd h.0
-not_taken j text number (Refused (input.State f)) s is h = absurd h.1
-not_taken j text number (Refused (input.Energy f)) s is h = absurd h.0
-not_taken j text number (Refused (input.System f)) s is h = (refl, tt, record { s = s; state_text' = is; it = h.1 })
-not_taken j text number (Refused input.ForceRange) s is h = (refl, tt, record { s = s; state_text' = is; it = h.1 })
-not_taken j text number Memory s is h = tt
+pub not_taken : {A : Type 0} (j : JobValue) (text : List ℕ) (number : ℕ) (s : StateView) → IsTextOf text s
+    → (fault : StreamFault (InputFault A)) → IsNotTaken j s number fault → HasNoState j text number fault
+not_taken j text number s is (stream.State n f) h = no_engine j text number n s is f h
+not_taken j text number s is stream.Memory h = tt
+not_taken j text number s is (stream.Rejected f) h = h
+not_taken j text number s is (stream.Differ n) h = h
+not_taken j text number s is stream.CannotRead h = h
+not_taken j text number s is (stream.Out f) h = h
 
 -- ---- on the way
 
@@ -225,16 +234,14 @@ module _ (told : StreamOutput) (job : List ℕ) where
     state_stops all n number text left o m (stream.Out f) is h some keeps p = absurd h
     state_stops all n number text left o m stream.Memory is h some keeps p = stops_at all n text left o m m stream.Memory p refl
 
-    module _ (state : List ℕ) (e : EngineView) (at : IsAt j state e) where
-      -- the energy itself has no accepted code
-      pub energy_stops : {A : Type 0} (all left : Left) (o : Output) (failure : Failure (EnergyFault A))
-          → IfRefused failure (λ f. told.observes × HasNoEnergy e f) → Progress told all 0 (with_text state left) o o
-          → OfLeft all (λ bytes. Breaks told job all bytes o o (energy_fault failure))
-      energy_stops all left o (Refused f) h p =
-          let opens : IsEngineOfTexts job state e = record { j = j; s = at.s; job_text = job_text; state_text' = at.state_text'; it = at.is } in
-          stops_at all 0 state left o o o (stream.Rejected (input.Energy f))
-          p (refl, inr (h.0, (state, rest_of left, refl, record { engine = e; opens = opens; why = h.1 })), refl)
-      energy_stops all left o Memory h p = stops_at all 0 state left o o o stream.Memory p refl
+  -- the energy itself has no accepted code
+  pub energy_stops : {A : Type 0} (all : Left) (text : List ℕ) (left : Left) (o : Output) (e : EngineView) → IsEngineOfTexts job text e
+      → (failure : Failure (EnergyFault A)) → IfRefused failure (λ f. told.observes × HasNoEnergy e f)
+      → Progress told all 0 (with_text text left) o o → OfLeft all (λ bytes. Breaks told job all bytes o o (energy_fault failure))
+  energy_stops all text left o e opens (Refused f) h p =
+      stops_at all 0 text left o o o (stream.Rejected (input.Energy f))
+      p (refl, inr (h.0, (text, rest_of left, refl, record { engine = e; opens = opens; why = h.1 })), refl)
+  energy_stops all text left o e opens Memory h p = stops_at all 0 text left o o o stream.Memory p refl
 
 -- the code is safe for the state of an engine
 pub at_safe : (job : List ℕ) (j : JobValue) → IsJobText limits job j → (state : List ℕ) (e : EngineView) → IsAt j state e
@@ -250,20 +257,20 @@ at_safe job j job_text state e at = record {
 -- ---- states that are shown, each for itself
 
 module _ (Shows : Showing) (job : List ℕ) (j : JobValue) (job_text : IsJobText limits job j) (state : List ℕ)
-    (e : EngineView) (at : IsAt j state e) (Now : Showing) (same : IsShownBy Shows Now) where
+    (e : EngineView) (at : IsAt j state e) where
   -- a text that shows the engine's state shows the state of its text
-  is_shown : (n : ℕ) (text : List ℕ) → Now.texts e.job n e.state text → IsShownOfText Shows job state n text
+  is_shown : (n : ℕ) (text : List ℕ) → Shows.texts e.job n e.state text → IsShownOfText Shows job state n text
   is_shown n text h = record {
     said = j;
     job_text = job_text;
     view = at.s;
     state_text' = at.state_text';
     safe = at_safe job j job_text state e at;
-    shown = subst (λ (v : EngineView). Shows.texts v.job n v.state text) at.is.is (same.texts e.job n e.state text h);
+    shown = subst (λ (v : EngineView). Shows.texts v.job n v.state text) at.is.is h;
   }
 
   -- one more state was shown
-  pub shows_next : (all : Left) (n : ℕ) (left : Left) (o m r : Output) → WroteText (Now.texts e.job n e.state) m r
+  pub shows_next : (all : Left) (n : ℕ) (left : Left) (o m r : Output) → WroteText (Shows.texts e.job n e.state) m r
       → Progress (shown_by Shows job) all n (with_text state left) o m → Progress (shown_by Shows job) all (suc n) left o r
   shows_next all n left o m r wrote p = record {
     differing = p.differing;
@@ -275,13 +282,13 @@ module _ (Shows : Showing) (job : List ℕ) (j : JobValue) (job_text : IsJobText
   }
 
   -- the text of a state wasn't written
-  pub text_stops : {A : Type 0} (all : Left) (n steps : ℕ) (left : Left) (o m r : Output) (h : Halt)
-      → FailsText (Now.texts e.job n e.state) Now.allocates steps m r h
+  pub text_stops : {A : Type 0} (all : Left) (n : ℕ) (left : Left) (o m r : Output) (fault : TextFault)
+      → FailsText (Shows.texts e.job n e.state) Shows.allocates m r fault
       → Progress (shown_by Shows job) all n (with_text state left) o m
-      → OfLeft all (λ bytes. Breaks {A = A} (shown_by Shows job) job all bytes o r (text_fault h))
-  text_stops all n steps left o m r (halt.Memory done) h p =
-      stops_at (shown_by Shows job) job all n state left o m r stream.Memory p h.2
-  text_stops all n steps left o m r (halt.Out f) h p =
+      → OfLeft all (λ bytes. Breaks {A = A} (shown_by Shows job) job all bytes o r (text_fault fault))
+  text_stops all n left o m r unwritten.Memory h p =
+      stops_at (shown_by Shows job) job all n state left o m r stream.Memory p h.1
+  text_stops all n left o m r (unwritten.Out f) h p =
       stops_at (shown_by Shows job) job all n state left o m r (stream.Out f) p (
         state,
         rest_of left,

@@ -5,8 +5,8 @@ use Rattle.engine.specs.declared.faults.InputFault.TheVariants as input
 use Rattle.fallible.specs.declared.failure.Failure.{Failure}
 use Rattle.fallible.specs.declared.failure.Failure.TheVariants.{Memory, Refused}
 use Rattle.potential.specs.declared.faults.EnergyFault.{EnergyFault}
-use Rattle.runs.specs.declared.halts.Halt.{Halt}
-use Rattle.runs.specs.declared.halts.Halt.TheVariants as halt
+use Rattle.runs.specs.declared.faults.TextFault.{TextFault}
+use Rattle.runs.specs.declared.faults.TextFault.TheVariants as unwritten
 use Rattle.state.specs.declared.faults.StateFault.{StateFault}
 use Rattle.state.specs.declared.sources.ReadFault.{ReadFault}
 use Rattle.state.specs.declared.sources.ReadFault.TheVariants as read
@@ -33,9 +33,9 @@ energy_fault (Refused f) = stream.Rejected (input.Energy f)
 energy_fault Memory = stream.Memory
 
 -- the fault if a text wasn't written
-abbrev pub text_fault : {R : Type 0} → Halt → StreamFault R
-text_fault (halt.Memory done) = stream.Memory
-text_fault (halt.Out f) = stream.Out f
+abbrev pub text_fault : {R : Type 0} → TextFault → StreamFault R
+text_fault unwritten.Memory = stream.Memory
+text_fault (unwritten.Out f) = stream.Out f
 
 -- the fault if the text with this number, from 1, is no state's
 abbrev pub state_fault : {A : Type 0} → (number : ℕ) → Failure StateFault → StreamFault (InputFault A)

@@ -10,8 +10,8 @@ use Rattle.integrator.specs.declared.faults.SystemFault.TheVariants as system
 use Rattle.runs.specs.Watching.{Report, hundredths_behind, reports_at}
 use Rattle.state.specs.Sources.{Left}
 use Rattle.streams.specs.Plans.{IsReplayed, ReplayPlanView}
-use Rattle.streams.specs.Replays.{AreReplayed, OfCounters}
-use Rattle.streams.specs.Streams.{OfFirst, OfLeft}
+use Rattle.streams.specs.Replays.{AreReplayed, OfCounters, replayed_by}
+use Rattle.streams.specs.Streams.{OfFirst, OfLeft, WritesStream}
 use Rattle.streams.specs.declared.faults.StreamFault.{StreamFault}
 use Rattle.streams.specs.declared.faults.StreamFault.TheVariants as stream
 
@@ -116,3 +116,9 @@ pub record IsWatched {X A : Type 0} (plan : ReplayPlanView) (job : List ℕ) (le
       (λ bytes. (reports : List Report) × AreAllWatched plan job before bytes after reports × told reports))
   pub some : IfErr result (λ f. OfLeft left
       (λ bytes. (reports : List Report) × AreWatchedBefore plan job before bytes after f reports × told reports))
+
+-- The contract of a replay: the lines that it writes, and the reports to its watcher.
+pub record ReplaysStream {X A : Type 0} (plan : ReplayPlanView) (job : List ℕ) (left : Left) (before after : Output)
+    (told : List Report → Type 0) (result : Result X (StreamFault (InputFault A))) : Type 0 where
+  pub writes : WritesStream (replayed_by plan job) job left before after result
+  pub watched : IsWatched plan job left before after told result

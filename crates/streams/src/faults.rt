@@ -7,7 +7,7 @@ ghost use Rattle.streams.specs.declared.faults.StreamFault.TheVariants as stream
 use engine::InputFault;
 use fallible::{Failure, OutFault};
 use potential::EnergyFault;
-use runs::Halt;
+use runs::TextFault;
 use state::{ReadFault, StateFault};
 use std::alloc::Allocator;
 
@@ -77,13 +77,13 @@ impl<A: Allocator> From<Failure<EnergyFault<A>>> for StreamFault<InputFault<A>> 
     }
 }
 
-impl<R> From<Halt> for StreamFault<R> {
-    ghost from_gives = { λ halt e. e ≡ text_fault halt };
+impl<R> From<TextFault> for StreamFault<R> {
+    ghost from_gives = { λ fault e. e ≡ text_fault fault };
 
-    fn from(halt: Halt) -> StreamFault<R> {
-        match halt {
-            Halt::Memory { .. } => StreamFault::Memory,
-            Halt::Out(fault) => StreamFault::Out(fault),
+    fn from(fault: TextFault) -> StreamFault<R> {
+        match fault {
+            TextFault::Memory => StreamFault::Memory,
+            TextFault::Out(fault) => StreamFault::Out(fault),
         }
     }
 }

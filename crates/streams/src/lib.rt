@@ -2,22 +2,18 @@
 #![tactic(auto)]
 
 mod differences;
-mod energies;
 mod faults;
-mod forces;
 mod laws;
 mod plans;
+mod quantities;
 mod replays;
 mod segments;
 mod streams;
 mod texts;
-mod velocities;
 
-pub use energies::{EnergyTexts, energy_line};
 pub use faults::StreamFault;
-pub use forces::ForceTexts;
 pub use laws::{one_runs_are_replayed, replays_are_one, same_streams_are_one_run};
 pub use plans::ReplayPlan;
+pub use quantities::{Quantity, QuantityTexts, energy_line};
 pub use replays::replay_states;
 pub use streams::show_states;
-pub use velocities::VelocityTexts;

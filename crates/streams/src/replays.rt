@@ -3,22 +3,20 @@
 ghost use Rattle.std.specs.Prelude.{◌≡◌, ◌<◌, ◌≤◌, ◌-◌, ◌^◌, List, ℕ, IfErr, IfOk, OnOk};
 ghost use Rattle.std.specs.Bool.{OnFalse, OnTrue};
 ghost use Rattle.engine.specs.Engines.{IsEngineOf};
-ghost use Rattle.fallible.specs.Out.{Appends};
 ghost use Rattle.job.specs.JobText.{IsJobText, limits};
 ghost use Rattle.state.specs.Sources.{with_text};
 ghost use Rattle.state.specs.StateViews.{state_view};
 ghost use Rattle.streams.specs.OnTheWay.{IsAt, OfState};
 ghost use Rattle.streams.specs.Plans.{IsReplayed, replay_plan_view};
-ghost use Rattle.streams.specs.Replays.{replayed_by};
-ghost use Rattle.streams.specs.Segments.{Compares, FailsSegment, IsNotTaken, IsTold, SegmentTold, ToldBefore, ToldRun, ToldWhole};
-ghost use Rattle.streams.specs.Streams.{WritesStream};
-ghost use Rattle.streams.specs.Watched.{IsWatched};
+ghost use Rattle.streams.specs.Segments.{Compares, FailsRun, FailsSegment, ReplaysSegment, RunReported};
+ghost use Rattle.streams.specs.Watched.{ReplaysStream};
 ghost use Rattle.streams.specs.declared.faults.StreamFault.TheVariants as stream;
 
 use crate::differences::{Difference, first_difference};
-use crate::faults::{StreamFault, numbered_fault, state_fault};
+use crate::faults::{StreamFault, state_fault};
 use crate::plans::ReplayPlan;
 use crate::segments::{segment_line, way};
+use crate::streams::take;
 use engine::{Engine, InputFault, open};
 use fallible::{Out, write_all};
 use integrator::{SystemFault, Workers};
@@ -70,9 +68,7 @@ pub fn replay_states<
     out: &mut O,
 ) -> Result<(), StreamFault<InputFault<A>>>
     requires count { (O.output out.old).failed < 2 ^ 64 - 1 }
-    ensures writes { WritesStream (replayed_by (replay_plan_view plan.now) job.now) job.now (L.left lines.old)
-        (O.output out.old) (O.output out.new) result }
-    ensures watched { IsWatched (replay_plan_view plan.now) job.now (L.left lines.old) (O.output out.old) (O.output out.new)
+    ensures { ReplaysStream (replay_plan_view plan.now) job.now (L.left lines.old) (O.output out.old) (O.output out.new)
         (W.told watch.old watch.new) result }
 {
     let mut text = Vec::new(alloc);
@@ -93,14 +89,10 @@ fn replay_each<R: Threads + Sync, A: Allocator + Copy + Send + Sync, L: Lines, W
 ) -> Result<(), StreamFault<InputFault<A>>>
     requires at { IsAt engine.old.job text.old.items engine.old }
     requires count { (O.output out.old).failed < 2 ^ 64 - 1 }
-    ensures writes { (job : List ℕ) → IsJobText limits job engine.old.job
-        → WritesStream (replayed_by (replay_plan_view plan.now) job) job (with_text text.old.items (L.left lines.old))
-        (O.output out.old) (O.output out.new) result }
-    ensures watched { (job : List ℕ) → IsJobText limits job engine.old.job
-        → IsWatched (replay_plan_view plan.now) job (with_text text.old.items (L.left lines.old)) (O.output out.old)
+    ensures { (job : List ℕ) → IsJobText limits job engine.old.job
+        → ReplaysStream (replay_plan_view plan.now) job (with_text text.old.items (L.left lines.old)) (O.output out.old)
         (O.output out.new) (W.told watch.old watch.new) result }
 {
-    let alloc = *text.allocator();
     let mut number = 0;
     let mut differing = 0;
     loop {
@@ -108,7 +100,7 @@ fn replay_each<R: Threads + Sync, A: Allocator + Copy + Send + Sync, L: Lines, W
         if text.is_empty() {
             return all_the_same(differing);
         }
-        if replay_next(rt, alloc, engine, text, number, plan, watch, out)? {
+        if replay_next(rt, engine, text, number, plan, watch, out)? {
             differing += 1;
         }
         number += 1;
@@ -133,7 +125,6 @@ fn all_the_same<R>(differing: u64) -> Result<(), StreamFault<R>>
 /// The engine takes the state of the text. `Ok`: whether the segment was replayed and differs.
 fn replay_next<R: Threads + Sync, A: Allocator + Copy + Send + Sync, W: Watch, O: Out>(
     rt: &R,
-    alloc: A,
     engine: &mut Engine<A>,
     text: &[u8],
     number: u64,
@@ -144,16 +135,13 @@ fn replay_next<R: Threads + Sync, A: Allocator + Copy + Send + Sync, W: Watch, O
     requires at { IsEngineOf engine.old.job engine.old.state engine.old }
     requires number { number < 2 ^ 64 - 2 }
     requires count { (O.output out.old).failed < 2 ^ 64 - 1 }
-    ensures told { IfOk result (λ differs. OfState text.now (λ t. (line : List ℕ)
-        × IsTold (replay_plan_view plan.now) number engine.old t differs line × Appends (O.output out.old) (O.output out.new) line)) }
+    ensures replayed { IfOk result (λ differs. OfState text.now (ReplaysSegment (replay_plan_view plan.now) number engine.old
+        (O.output out.old) (O.output out.new) (W.told watch.old watch.new) differs)) }
     ensures at { OnOk result (IsAt engine.old.job text.now engine.new) }
-    ensures fails { IfErr result (FailsSegment (replay_plan_view plan.now) number engine.old text.now (O.output out.old)
-        (O.output out.new)) }
-    ensures watched { OnOk result (OfState text.now (λ t. ToldWhole (replay_plan_view plan.now) number engine.old t
-        (O.output out.old) (W.told watch.old watch.new))) }
-    ensures stopped { IfErr result (SegmentTold (replay_plan_view plan.now) number engine.old text.now (O.output out.old)
-        (W.told watch.old watch.new)) }
+    ensures fails { IfErr result (FailsSegment (replay_plan_view plan.now) number engine.old text.now
+        (O.output out.old) (O.output out.new) (W.told watch.old watch.new)) }
 {
+    let alloc = *engine.state().atoms.allocator();
     let state = match State::read(alloc, text) {
         Ok(state) => state,
         Err(failure) => return Err(state_fault(number + 2, failure)),
@@ -185,10 +173,9 @@ fn compare<R: Threads + Sync, A: Allocator + Copy + Send + Sync, W: Watch, O: Ou
     requires { IsEngineOf engine.old.job engine.old.state engine.old }
     ensures compared { IfOk result (Compares engine.old (state_view state)) }
     ensures at { OnOk result (IsEngineOf engine.old.job (state_view state) engine.new) }
-    ensures refused { IfErr result (IsNotTaken engine.old.job (state_view state) number) }
-    ensures watched { OnOk result (ToldRun engine.old.state.step (state_view state).step (O.output out.now)
+    ensures reported { OnOk result (RunReported engine.old.state.step (state_view state).step (O.output out.now)
         (W.told watch.old watch.new)) }
-    ensures stopped { IfErr result (ToldBefore engine.old.state.step (state_view state).step (O.output out.now)
+    ensures fails { IfErr result (FailsRun engine.old (state_view state) number (O.output out.now)
         (W.told watch.old watch.new)) }
 {
     if state.frac != engine.frac() {
@@ -208,20 +195,5 @@ fn compare<R: Threads + Sync, A: Allocator + Copy + Send + Sync, W: Watch, O: Ou
             take(engine, state, number)?;
             Ok(Some(difference))
         }
-    }
-}
-
-/// Takes the state with this number, from 1, into the engine.
-fn take<A: Allocator + Copy>(
-    engine: &mut Engine<A>,
-    state: State<A>,
-    number: u64,
-) -> Result<(), StreamFault<InputFault<A>>>
-    ensures taken { OnOk result (IsEngineOf engine.old.job (state_view state) engine.new) }
-    ensures refused { IfErr result (IsNotTaken engine.old.job (state_view state) number) }
-{
-    match engine.take(state) {
-        Ok(()) => Ok(()),
-        Err(failure) => Err(numbered_fault(number, failure)),
     }
 }

@@ -19,7 +19,7 @@ returns-in-Replay-clause-performs g c = rw c.in-Replay.is c.perform_replay.ensur
 
 pub returns-in-Observe : goal.returns-in-Observe
 returns-in-Observe g c =
-    let shown = rw (c.new-rows.ensures.columns, c.columns_of.ensures) at c.perform_visits-in-Observe.ensures in
+    let shown = rw c.columns_of.ensures at c.perform_visits-in-Observe.ensures in
     rw c.in-Observe.is (record { performs = shown.performs; reports = shown.reports })
 
 pub returns-in-Frame-clause-performs : goal.returns-in-Frame-clause-performs

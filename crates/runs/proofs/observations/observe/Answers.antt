@@ -1,46 +1,36 @@
-use Rattle.std.proofs.Common.{◌≡◌, length, ap, refl, sym, ◌∙◌, rules, to_z, of_z, w64}
-use Rattle.std.proofs.lemmas.List.{length-map}
-use Rattle.state.specs.StateText.{AtomView}
+use Rattle.std.proofs.Common.{◌≡◌, ap, refl, ◌∙◌, rules, to_z, of_z, w64}
 use Rattle.integrator.specs.States.{current_frame, previous_frame}
 use Rattle.observables.specs.Sums.{moments_between, products_about, squares_about}
 use Rattle.engine.specs.Engines.{EngineView, engine_dynamics}
-use Rattle.runs.proofs.ObservationLaws.{next_sized}
+use Rattle.runs.proofs.ObservationLaws.{current_sized, next_sized, previous_sized}
 use Rattle.runs.proofs.observations.observe.Goals as goal
 
 -- all frames are of the engine's atoms
 pub squares-requires-clause-previous : goal.squares-requires-clause-previous
-squares-requires-clause-previous g c =
-    ap length c.previous-previous.ensures ∙ length-map _ (λ (a : AtomView). a.previous) ∙ sym c.masses-masses.ensures.atoms
+squares-requires-clause-previous g c = previous_sized c.next_frame.new.self _ _ c.masses-masses.ensures.atoms c.previous-previous.ensures
 
 pub squares-requires-clause-current : goal.squares-requires-clause-current
-squares-requires-clause-current g c =
-    ap length c.current-current.ensures ∙ length-map _ (λ (a : AtomView). a.current) ∙ sym c.masses-masses.ensures.atoms
+squares-requires-clause-current g c = current_sized c.next_frame.new.self _ _ c.masses-masses.ensures.atoms c.current-current.ensures
 
 pub squares-requires-clause-next : goal.squares-requires-clause-next
 squares-requires-clause-next g c =
-    ap length c.deref.ensures.value ∙ next_sized c.observe.new.self c.in_ok-next.next.items c.in_ok-next.ensures.next
-    ∙ sym (ap (λ (e : EngineView). length e.state.atoms) c.next_frame.ensures.same) ∙ sym c.masses-masses.ensures.atoms
+    next_sized c.next_frame.new.self _ _ c.masses-masses.ensures.atoms _ c.observe.new.self c.deref.ensures.value c.in_ok-next.ensures.next c.next_frame.ensures.same
 
 pub products-requires-clause-previous : goal.products-requires-clause-previous
-products-requires-clause-previous g c =
-    ap length c.previous-previous.ensures ∙ length-map _ (λ (a : AtomView). a.previous) ∙ sym c.masses-masses.ensures.atoms
+products-requires-clause-previous g c = previous_sized c.next_frame.new.self _ _ c.masses-masses.ensures.atoms c.previous-previous.ensures
 
 pub products-requires-clause-current : goal.products-requires-clause-current
-products-requires-clause-current g c =
-    ap length c.current-current.ensures ∙ length-map _ (λ (a : AtomView). a.current) ∙ sym c.masses-masses.ensures.atoms
+products-requires-clause-current g c = current_sized c.next_frame.new.self _ _ c.masses-masses.ensures.atoms c.current-current.ensures
 
 pub products-requires-clause-next : goal.products-requires-clause-next
 products-requires-clause-next g c =
-    ap length c.deref-2.ensures.value ∙ next_sized c.observe.new.self c.in_ok-next.next.items c.in_ok-next.ensures.next
-    ∙ sym (ap (λ (e : EngineView). length e.state.atoms) c.next_frame.ensures.same) ∙ sym c.masses-masses.ensures.atoms
+    next_sized c.next_frame.new.self _ _ c.masses-masses.ensures.atoms _ c.observe.new.self c.deref-2.ensures.value c.in_ok-next.ensures.next c.next_frame.ensures.same
 
 pub momentum-requires-clause-previous : goal.momentum-requires-clause-previous
-momentum-requires-clause-previous g c =
-    ap length c.previous-previous.ensures ∙ length-map _ (λ (a : AtomView). a.previous) ∙ sym c.masses-masses.ensures.atoms
+momentum-requires-clause-previous g c = previous_sized c.next_frame.new.self _ _ c.masses-masses.ensures.atoms c.previous-previous.ensures
 
 pub momentum-requires-clause-current : goal.momentum-requires-clause-current
-momentum-requires-clause-current g c =
-    ap length c.current-current.ensures ∙ length-map _ (λ (a : AtomView). a.current) ∙ sym c.masses-masses.ensures.atoms
+momentum-requires-clause-current g c = current_sized c.next_frame.new.self _ _ c.masses-masses.ensures.atoms c.current-current.ensures
 
 -- the observed values; the sums and the next frame leave the engine unchanged
 pub returns-clause-observation : goal.returns-clause-observation

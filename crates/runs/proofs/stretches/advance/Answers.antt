@@ -58,8 +58,8 @@ returns-in_err-go_on-clause-stopped g c =
     let few : stopped.0 < c.until_hundredth-next.result = omega (arith, stopped.1.few, c.min-more.ensures) in
     rw (p.1, p.2) (
       made + stopped.0,
-      stopped_later c.args.direction c.args.before c.args.steps made c.min-more.result stopped.0 c.args.engine.now c.loop-made.engine
-          c.go_on-in-loop-made.new.engine c.in_err-go_on.field-0.0
+      stopped_later c.args.direction c.args.before c.args.steps made c.min-more.result stopped.0 _ c.args.engine.now c.loop-made.engine
+          c.go_on-in-loop-made.new.engine
           (omega (arith, c.min-more.ensures, c.loop-made.invariant.within)) c.loop-made.invariant.went stopped.1,
       subst (g.W.Watch.told c.args.watch.now c.loop-made.watch)
           (sym (ap (reports_at (g.O.Out.output c.args.out.now) c.args.of)

@@ -2,39 +2,24 @@ use Rattle.std.proofs.Common.{◌≡◌, suc, ◌+◌, length, arith, add-one, a
 use Rattle.std.proofs.lemmas.List.{nil_from_length}
 use Rattle.std.proofs.lemmas.Result.{err_from_is_err_and}
 use Rattle.engine.specs.Engines.{EngineView}
-use Rattle.runs.proofs.VisitLaws.{shown_by_both}
+use Rattle.runs.proofs.ReadinessLaws.{ready_to}
 use Rattle.state.specs.Sources.{with_text}
 use Rattle.streams.specs.OnTheWay.{IsAt}
-use Rattle.streams.proofs.StreamLaws.{at_job, at_typed, begins, count_stops, ends, energy_stops, not_nil, reading_stops, shows_next, state_stops, takes, text_stops}
+use Rattle.streams.proofs.StreamLaws.{at_job, at_typed, count_stops, ends, not_nil, reading_stops, shows_next, state_stops, takes, text_stops}
 use Rattle.streams.specs.Streams.{shown_by}
 use Rattle.streams.proofs.streams.show_each.Goals as goal
-
--- the energy itself has no accepted code
-pub returns-in_err-prepare : goal.returns-in_err-prepare
-returns-in_err-prepare g c = λ job job_text.
-    let p = err_from_is_err_and c.from_residual.result c.from_residual.ensures.1 in
-    let shows = g.S.Show.shows c.args.show.now in
-    let e = c.args.engine.now in
-    let text = c.args.text.now.items in
-    let left = g.L.Lines.left c.args.lines.now in
-    let out = g.O.Out.output c.args.out.now in
-    rw (p.1, p.2) (record {
-      written = tt;
-      stopped = energy_stops (shown_by shows job) job e.job job_text text e c.requires.at (with_text text left) left out _
-          c.in_err-prepare.ensures.refused (begins shows job (with_text text left) out);
-    })
 
 -- the text of a state wasn't written
 pub returns-in_err-show : goal.returns-in_err-show
 returns-in_err-show g c = λ job job_text.
-    let p = err_from_is_err_and c.from_residual-in_err-show.result c.from_residual-in_err-show.ensures.1 in
+    let p = err_from_is_err_and c.from_residual.result c.from_residual.ensures.1 in
     let l = c.loop-shown in
     let i = l.invariant in
     rw (p.1, p.2) (record {
       written = tt;
       stopped = text_stops (g.S.Show.shows c.args.show.now) job c.args.engine.now.job job_text l.text.items l.engine i.at
-          (g.S.Show.shows l.show) i.same (with_text c.args.text.now.items (g.L.Lines.left c.args.lines.now)) l.shown 0 (g.L.Lines.left l.lines) _ _ _ c.in_err-show.field-0.0
-          c.in_err-show.ensures.fails (i.progress job job_text);
+          (with_text c.args.text.now.items (g.L.Lines.left c.args.lines.now)) l.shown (g.L.Lines.left l.lines) _ _ _
+          c.in_err-show.field-0.0 c.in_err-show.ensures.fails (i.progress job job_text);
     })
 
 -- no more states can be counted
@@ -44,7 +29,7 @@ returns-then-shown g c = λ job job_text.
     let i = l.invariant in
     let shows = g.S.Show.shows c.args.show.now in
     let all = with_text c.args.text.now.items (g.L.Lines.left c.args.lines.now) in
-    let next = shows_next _ job _ job_text _ _ i.at _ i.same all l.shown (g.L.Lines.left l.lines) _ _ _ c.in_ok-show.ensures.wrote
+    let next = shows_next _ job _ job_text _ _ i.at all l.shown (g.L.Lines.left l.lines) _ _ _ c.in_ok-show.ensures.wrote
     (i.progress job job_text) in
     record { written = tt; stopped = count_stops (shown_by shows job) job all (suc l.shown) _ _ _ (omega (arith, c.if-shown.true)) next }
 
@@ -56,7 +41,7 @@ returns-in_err-next_text g c = λ job job_text.
     let i = l.invariant in
     let shows = g.S.Show.shows c.args.show.now in
     let all = with_text c.args.text.now.items (g.L.Lines.left c.args.lines.now) in
-    let next = shows_next _ job _ job_text _ _ i.at _ i.same all l.shown (g.L.Lines.left l.lines) _ _ _ c.in_ok-show.ensures.wrote
+    let next = shows_next _ job _ job_text _ _ i.at all l.shown (g.L.Lines.left l.lines) _ _ _ c.in_ok-show.ensures.wrote
     (i.progress job job_text) in
     rw (p.1, p.2) (record {
       written = tt;
@@ -70,7 +55,7 @@ returns-then-is_empty g c = λ job job_text.
     let i = l.invariant in
     let shows = g.S.Show.shows c.args.show.now in
     let all = with_text c.args.text.now.items (g.L.Lines.left c.args.lines.now) in
-    let next = shows_next _ job _ job_text _ _ i.at _ i.same all l.shown (g.L.Lines.left l.lines) _ _ _ c.in_ok-show.ensures.wrote
+    let next = shows_next _ job _ job_text _ _ i.at all l.shown (g.L.Lines.left l.lines) _ _ _ c.in_ok-show.ensures.wrote
     (i.progress job job_text) in
     let none : length c.next_text.new.text.items ≡ 0 = search rules in
     record {
@@ -89,14 +74,13 @@ loop-shown-preserved g c =
     record {
       few = omega (arith, i.few, c.if-shown.false);
       at = at;
-      ready = g.met.S.Show.ready_for_other_state c.show.new.self c.show.new.engine c.take_state.new.engine
-          (at_job j c.next_text.new.text.items c.take_state.new.engine at ∙ sym kept)
-          (at_typed j c.next_text.new.text.items c.take_state.new.engine at) c.show.ensures.ready;
-      same = shown_by_both i.same c.show.ensures.same;
+      ready = ready_to _ _ l.engine c.take_state.new.engine
+          (at_job j c.next_text.new.text.items c.take_state.new.engine at ∙ sym (at_job j l.text.items l.engine i.at))
+          (at_typed j c.next_text.new.text.items c.take_state.new.engine at) i.ready;
       failed = c.in_ok-show.ensures.wrote.appends.failed ∙ i.failed;
       progress = λ job job_text.
           let all = with_text c.args.text.now.items (g.L.Lines.left c.args.lines.now) in
-          let next = shows_next _ job _ job_text _ _ i.at _ i.same all l.shown (g.L.Lines.left l.lines) _ _ _ c.in_ok-show.ensures.wrote
+          let next = shows_next _ job _ job_text _ _ i.at all l.shown (g.L.Lines.left l.lines) _ _ _ c.in_ok-show.ensures.wrote
           (i.progress job job_text) in
           rw add-one (takes (shown_by shows job) job all (suc l.shown) _ _ _ _ _ c.in_ok-next_text.ensures.takes.taken next);
     }
@@ -115,7 +99,7 @@ returns-in_err-take_state g c = λ job job_text.
     let some : length text ≡ 0 → ⊥ = search rules in
     let taken = c.in_ok-next_text.ensures.takes in
     let all = with_text c.args.text.now.items (g.L.Lines.left c.args.lines.now) in
-    let next = shows_next _ job _ job_text _ _ i.at _ i.same all l.shown (g.L.Lines.left l.lines) _ _ _ c.in_ok-show.ensures.wrote
+    let next = shows_next _ job _ job_text _ _ i.at all l.shown (g.L.Lines.left l.lines) _ _ _ c.in_ok-show.ensures.wrote
     (i.progress job job_text) in
     rw (p.1, p.2) (record {
       written = tt;

@@ -1,5 +1,5 @@
 use Rattle.std.proofs.lemmas.Result.{err_from_is_err_and}
-use Rattle.streams.proofs.StreamLaws.{begins, opening_stops, reading_stops, takes, texts_job}
+use Rattle.streams.proofs.StreamLaws.{begins, energy_stops, opening_stops, reading_stops, takes, texts_job}
 use Rattle.streams.specs.Streams.{shown_by}
 use Rattle.streams.proofs.streams.show_states.Goals as goal
 
@@ -29,6 +29,21 @@ returns-in_err-engine g c =
       written = tt;
       stopped = opening_stops (shown_by shows job) job left _ _ out _ refused taken.keeps
           (takes (shown_by shows job) job left 0 _ _ _ out out taken.taken (begins shows job left out));
+    })
+
+-- the energy itself has no accepted code
+pub returns-in_err-observer : goal.returns-in_err-observer
+returns-in_err-observer g c =
+    let p = err_from_is_err_and c.from_residual-in_err-observer.result c.from_residual-in_err-observer.ensures.1 in
+    let shows = g.S.Show.shows c.args.show.now in
+    let job = c.args.job.now in
+    let left = g.L.Lines.left c.args.lines.now in
+    let out = g.O.Out.output c.args.out.now in
+    let opens = rw c.deref.ensures.value at c.in_ok-engine.ensures.opens in
+    rw (p.1, p.2) (record {
+      written = tt;
+      stopped = energy_stops (shown_by shows job) job left _ _ out _ opens _ c.in_err-observer.ensures.refused
+          (takes (shown_by shows job) job left 0 _ _ _ out out c.in_ok-next_text.ensures.takes.taken (begins shows job left out));
     })
 
 pub returns : goal.returns
