@@ -25,7 +25,7 @@ as an object (`Job`, `State`) or as the path of a file.
 promise depends on it. docs/FORMATS.md defines the files.
 """
 
-__version__ = "1.8.0"
+__version__ = "1.8.1"
 """The version, equal to that of the program it was tested with. `pyproject.toml` reads it here."""
 
 from .archive import Run, write_archive

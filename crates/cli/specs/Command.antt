@@ -87,7 +87,7 @@ PrintsSome before after = (text : List ℕ) × (text ≢ []) × Appends before a
 
 -- the line with the program's name and its version
 abbrev pub version_line : List ℕ
-version_line = codes "pairmd 1.8.0\n"
+version_line = codes "pairmd 1.8.1\n"
 
 -- The arguments were carried out. Help or the version was printed, and no file was requested; or a command requested
 -- all its files in order and printed its output for them.

@@ -6,7 +6,7 @@ ghost use Rattle.explanations.specs.Explanations.{text_for};
 use integrator::Direction;
 
 /// The version of the program, which `--version` prints.
-pub const VERSION: &str = "1.8.0";
+pub const VERSION: &str = "1.8.1";
 
 /// The most steps that one command takes.
 pub const MAX_STEPS: u64 = 1_000_000_000_000;

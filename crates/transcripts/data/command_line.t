@@ -196,11 +196,11 @@ Help is printed on standard output, and the exit status is 0.
 The version is printed in the same way. `--version` is an option of the program, not of a command.
 
   $ pairmd --version
-  pairmd 1.8.0
+  pairmd 1.8.1
   $ pairmd -V
-  pairmd 1.8.0
+  pairmd 1.8.1
   $ pairmd --version run job
-  pairmd 1.8.0
+  pairmd 1.8.1
   $ outputs pairmd --version
   0-12: a beginning, pairmd: O2 CannotWrite [5]
   13: all

@@ -585,7 +585,7 @@ Errors go to standard error, and standard output stays empty. Help and version g
   $ cmp printed nothing
   $ pairmd --version > printed
   $ cat printed
-  pairmd 1.8.0
+  pairmd 1.8.1
   $ pairmd help code > printed
   $ cat printed
   Prints the job's compiled derivative as a listing
