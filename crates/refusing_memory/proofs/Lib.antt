@@ -1,1 +1,2 @@
 mod Requesting
+mod Walks

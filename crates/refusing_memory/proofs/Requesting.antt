@@ -1,20 +1,15 @@
 -- The preconditions and postconditions of calls of `refuses_next` and `count_return`. Assumes `Logic`.
-use Rattle.std.proofs.Common.{◌≡◌, ℕ, Bool, List, [], ◌∷◌, refl, ap}
-use seplogic.Ra.Ura.{Ura}
-use mir.Val.{Val, vbool, vptr, vunit}
-use base.Logic.{SProp, ent, sep, ex, guard, id⊢}
-use base.Fml.{Lft, Share, ftrue, fsep, flft}
-use prog.Memory.{Memory}
-use prog.Routine.{Routine}
-use types.Logic.{Logic, sem}
-use contract.Monad.{Fun}
-use types.Kit.{‵, ◌⊛◌, some, later, ◌$◌, ◌∵◌, !, qed, move, keep, use1, split, join, pick, fjoin, feq_i, feq_l, check, show, await, updating, now as at_once, done}
-use denote.RattleType.{RattleType}
+use Rattle.std.proofs.Common.{Bool, ap}
+use mir.Val.{vbool, vunit}
+use base.Logic.{sep, ex, guard}
+use base.Fml.{fsep}
+use types.Logic.{sem}
+use types.Kit.{some, pick, feq_i, feq_l, check, show, updating, now as at_once}
 use denote.Memory.{hidden_shr}
 use denote.Builtin.{bool, unit}
-use denote.Steps.{nothing, only}
+use denote.Steps.{only}
 use denote.Triple.Statement.{Contract}
-use denote.Triple.Spec.{triple_of}
+use Rattle.refusing_memory.proofs.Walks.{◌≡◌, ℕ, List, [], ◌∷◌, refl, Ura, Val, vptr, SProp, ent, id⊢, Lft, Share, ftrue, flft, Memory, Routine, Logic, Fun, ‵, ◌⊛◌, later, ◌$◌, ◌∵◌, !, qed, move, keep, use1, split, join, fjoin, await, done, RattleType, nothing, triple_of}
 use Rattle.refusing_memory.specs.contracts.Requests as counted
 use Rattle.refusing_memory.specs.contracts.Requests.refuses_next as asked
 use Rattle.refusing_memory.specs.contracts.Requests.count_return as counting

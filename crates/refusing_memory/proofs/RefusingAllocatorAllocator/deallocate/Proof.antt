@@ -1,67 +1,30 @@
--- It counts the block, and gives it back to the inner allocator. Assumes `Logic`.
-use Rattle.std.proofs.Common.{◌≡◌, ℕ, ◌+◌, ◌^◌, ◌<◌, List, [], ◌∷◌, refl, w64, Bor}
-use seplogic.Ra.Ura.{Ura}
-use mir.Syntax.{Ty, Args, Fn, a_type, dnil, dcons}
-use mir.Val.{Val, vint, vptr}
-use mir.MapTy.{inst_fn}
-use base.Logic.{SProp, ent, id⊢}
-use base.Fml.{Lft, Share, ftrue, flft}
-use prog.Memory.{Memory, size, align, capped, up}
-use prog.Routine.{Routine}
-use prog.Wp.{WpFn, Tables}
-use types.Logic.{Logic}
-use contract.BorrowLft.{◌⊑◌, ⊑_trans}
-use contract.Monad.{Fun, fact}
-use contract.Running.{tables, tables_of}
-use sound.WpLaws.{fm_of, WpFn-mono}
-use types.Run.{stop, fld, addr, no_more, and_then, of_opd, returns, enter}
-use denote.Exit.{yes}
-use denote.RattleType.{owns}
-use denote.Ref.{shr_vals}
-use denote.Opens.{unhide}
-use denote.Param.{bounded, param}
-use denote.Plain.{uint_vals, uint_Tells}
-use denote.Signature.{Slot, plain, types_at}
-use denote.Steps.{heard, nothing}
-use denote.Triple.Clauses.{Ended, Clauses}
-use denote.Triple.Spec.{triple_of}
-use denote.Triple.Statement.{Triple}
-use denote.Triple.Table.{entered, cited}
-use denote.Triple.Walked.{Stays, stay_dropped, walk_of, ends_at, walked, Goes-dropped, walk_Meets}
+-- `deallocate` counts the block, and gives it back to the inner allocator. Assumes `Logic`.
 use mir.Val.{vunit}
 use base.Logic.{never_e}
 use base.Fml.{ffalse, fsep, froom}
-use types.Kit.{Item, ‵, raw, ◌⊛◌, later, given, ◌$◌, ◌∵◌, !, qed, by, move, keep, use1, use2, split, split3, join, learn, fsplit, fjoin, feq_i, suffices, await, done}
-use types.Run.{unit_lit}
-use types.ByLocal.{alloc_all, pass_all, free_all, look_at, get, through, sets, lands_as}
-use denote.RawPtr.{Ptr, block_ptr, null_ptr, ptr_val, rawptr_vals, rawptr_Tells}
-use denote.Builtin.{usize, RawPtr, RefOf}
-use denote.Triple.Call.{calls_at}
-use Rattle.std.proofs.alloc.Calls.{Al, α, seen, token, gives_key, Gives, at_gives, Gives-goes, Gives-Gives}
+use types.Run.{of_opd, unit_lit}
+use types.Kit.{Item, by, split3, feq_i}
+use denote.RawPtr.{Ptr, null_ptr, ptr_val, rawptr_vals, rawptr_Tells}
+use denote.Builtin.{RawPtr}
+use Rattle.std.proofs.alloc.Calls.{token, gives_key, Gives, at_gives, Gives-goes, Gives-Gives}
 use Rattle.refusing_memory.proofs.Requesting.{Counts, at_counts, Counts-goes, Counts-gives}
+use Rattle.refusing_memory.proofs.Walks.{◌≡◌, ℕ, ◌^◌, ◌<◌, List, [], ◌∷◌, refl, w64, Bor, Ura, Ty, Fn, Val, vint, vptr, inst_fn, SProp, ent, id⊢, Lft, Share, ftrue, flft, Memory, size, align, capped, Routine, WpFn, Tables, Logic, ◌⊑◌, ⊑_trans, Fun, fact, tables, tables_of, fm_of, WpFn-mono, stop, fld, addr, no_more, and_then, returns, enter, yes, owns, shr_vals, unhide, uint_vals, uint_Tells, plain, types_at, heard, nothing, Ended, Clauses, triple_of, Triple, entered, cited, Stays, stay_dropped, walk_of, ends_at, walked, Goes-dropped, walk_Meets, ‵, raw, ◌⊛◌, later, given, learn, ◌$◌, ◌∵◌, !, qed, move, keep, use1, use2, split, join, fsplit, fjoin, suffices, await, done, alloc_all, pass_all, free_all, look_at, get, through, sets, lands_as, block_ptr, usize, calls_at, Al, seen, args, Refusing, self, inner_at, counters_at}
 use Rattle.refusing_memory.proofs.Requests.count_return.Symbol as c_sym
 use Rattle.refusing_memory.proofs.Requests.count_return.Met as c_met
-use Rattle.refusing_memory.specs.contracts.RefusingAllocator as wrapper
 use Rattle.refusing_memory.specs.contracts.RefusingAllocatorAllocator.deallocate as F
 use Rattle.refusing_memory.specs.contracts.RefusingAllocatorAllocator.deallocate.Key as key
 use Rattle.refusing_memory.proofs.RefusingAllocatorAllocator.deallocate.Statement as stated
 use Rattle.refusing_memory.proofs.RefusingAllocatorAllocator.deallocate.Code as code
 
 module _ (Z : Al) where
-  abbrev args : Args
-  args = bounded (a_type ∷ []) (Z.row, tt) (dcons Z.d (dcons Z.drops dnil))
-
   abbrev here : Fn
-  here = inst_fn args code.function
-
-  abbrev self : Slot 2
-  self = RefOf (0 ∷ []) tt (plain (λ _. wrapper.the_row (param 0 Z.row))) (λ _. tt)
+  here = inst_fn (args Z) code.function
 
   abbrev ended : Ended
   ended = F.ended Z.row Z.g Z.d Z.drops
 
   abbrev stayed : Stays ended.signature.params ended.kept
-  stayed = (stay_dropped self yes, (stay_dropped (plain (λ _. RawPtr)) yes, (stay_dropped (plain (λ _. usize)) yes, (stay_dropped (plain (λ _. usize)) yes, tt))))
+  stayed = (stay_dropped (self Z) yes, (stay_dropped (plain (λ _. RawPtr)) yes, (stay_dropped (plain (λ _. usize)) yes, (stay_dropped (plain (λ _. usize)) yes, tt))))
 
 module _ (Z : Al) {M : Type 1} {𝓤 : Ura M} (𝓛 : Logic 𝓤) (at_mem : Memory → SProp 𝓤) (run : Routine → Fun 𝓤) (𝓣 : Tables 𝓤 𝓛.H) (de : Triple 𝓤 (𝓣.C (gives_key Z)) (Gives Z 𝓛 at_mem run)) (kn : Triple 𝓤 (𝓣.C c_sym.name) (Counts 𝓛 at_mem run)) where
   open 𝓛 use {H}
@@ -69,7 +32,7 @@ module _ (Z : Al) {M : Type 1} {𝓤 : Ura M} (𝓛 : Logic 𝓤) (at_mem : Memo
   abbrev held : Clauses 𝓤 (ended Z)
   held = F.clauses Z.row Z.g Z.d Z.drops 𝓛 at_mem run
 
-  module _ (κ₁ κ₂ : Lft) (q₁ q₂ : Share) (inn : κ₁ ⊑ κ₂) (r : Bor (wrapper.the_row Z.row).Denot) (n a : ℕ) (τ : Ty) where
+  module _ (κ₁ κ₂ : Lft) (q₁ q₂ : Share) (inn : κ₁ ⊑ κ₂) (r : Bor (Refusing Z).Denot) (n a : ℕ) (τ : Ty) where
     abbrev bound : Ptr → (walk_of 𝓛 (ended Z) (stayed Z) held).Ghost
     bound x = (((κ₁, (κ₂, tt)), (q₁, (q₂, tt)), (inn, tt), (r, (x, (n, (a, tt)))), (shr_vals r, (rawptr_vals x, (vint w64 n ∷ [], (vint w64 a ∷ [], tt))))), τ)
 
@@ -91,8 +54,8 @@ module _ (Z : Al) {M : Type 1} {𝓤 : Ura M} (𝓛 : Logic 𝓤) (at_mem : Memo
         move ! (1 ∷ []) $ split3 ! $ move ! (2 ∷ []) $ fsplit ! $ keep ! (0 ∷ []) $ by ! (never_e 𝓤 _)
     walk fn fa (block_ptr b o) =
         let h : Z.row.Denot = r.now.inner in
-        let p : ℕ × ℕ = (r.ref_ptr.0, r.ref_ptr.1 + up (align (α Z)) 0) in
-        let c : ℕ × ℕ = (r.ref_ptr.0, r.ref_ptr.1 + up 8 (up (align (α Z)) 0 + size (α Z))) in
+        let p : ℕ × ℕ = inner_at Z r.ref_ptr in
+        let c : ℕ × ℕ = counters_at Z r.ref_ptr in
         let x : Ptr = block_ptr b o in
         let y : (Gives Z 𝓛 at_mem run).Ghost = at_gives Z 𝓛 at_mem run κ₁ q₁ p h b o n a τ in
         qed 𝓛 (entry x ∷ (raw (fact 𝓤 (κ₂ ⊑ Z.row.lives)) ⊛ raw (fact 𝓤 Said) ⊛ ‵ (fsep (froom τ b o) (token Z h τ x))) ∷ []) ∵
