@@ -170,10 +170,6 @@ constant_unique bits m (negsuc p) c (v, l, u) =
     let twice : c.high ≡ neg_ℤ (neg_ℤ c.high) = omega (arith, ints) in
     same_parts c z _ _ v low (twice ∙ ap neg_ℤ below)
 
--- a decimal is read as one constant
-pub constant_once : (bits m : ℕ) (p : ℤ) (c d : Constant) → IsConstantOf bits m p c → IsConstantOf bits m p d → c ≡ d
-constant_once bits m p c d h k = constant_unique bits m p c h ∙ sym (constant_unique bits m p d k)
-
 -- ---- readings
 
 -- a constant that is read has the number that is read

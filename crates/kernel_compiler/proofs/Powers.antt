@@ -1,22 +1,10 @@
 -- The codes of powers.
-use Rattle.std.proofs.Common.{◌≡◌, ◌≢◌, ℕ, zero, suc, ◌+◌, ◌/◌, ◌%◌, ◌<◌, ◌≤◌, [], ◌∷◌, ◌++◌, length, arith, refl, inl, inr, ap, ◌∙◌, length-append}
-use Rattle.std.proofs.lemmas.Bool.{cases_eq}
-use Rattle.fixed.proofs.PowerLemmas.{is_even, is_odd, is_one}
+use Rattle.std.proofs.Common.{◌≡◌, ◌≢◌, ℕ, ◌+◌, ◌/◌, ◌%◌, ◌<◌, [], ◌∷◌, ◌++◌, length, refl, ap, ◌∙◌, length-append}
+use Rattle.fixed.proofs.PowerLemmas.{at_even, at_odd}
 use Rattle.fixed.specs.declared.operations.Operator.TheVariants.{Multiply}
 use Rattle.fixed.specs.declared.operations.UnaryOperator.TheVariants.{Square}
 use Rattle.kernel_code.specs.declared.instructions.Instr.TheVariants.{Get, Binary, Unary}
 use Rattle.kernel_compiler.specs.Code.{base, power_code_within, power_code}
-
--- any two bounds of at least n on the number of halvings give the same code
-within_same : (f g n : ℕ) → 0 < n → n ≤ f → n ≤ g → power_code_within f n ≡ power_code_within g n
-unfolding power_code_within
-within_same zero g n p l m = absurd (omega arith)
-within_same (suc f) zero n p l m = absurd (omega arith)
-within_same (suc f) (suc g) n p l m =
-    elim (cases_eq n 1) [
-      | inl e ↦ rw e refl
-      | inr ne ↦ rw (within_same f g (n / 2) (omega arith) (omega arith) (omega arith)) refl
-    ]
 
 -- the code of the power 1 is the base
 pub power_one : (n : ℕ) → n ≡ 1 → power_code n ≡ Get base ∷ []
@@ -26,16 +14,12 @@ power_one n e = rw e refl
 -- the code of an even power from 2 on is the code of half the power, then a squaring
 pub power_even : (n : ℕ) → 1 < n → n % 2 ≡ 0 → power_code n ≡ power_code (n / 2) ++ (Unary Square ∷ [])
 unfolding power_code_within
-power_even zero p e = absurd (omega arith)
-power_even (suc m) p e =
-    rw (is_one (suc m) p, is_even (suc m % 2) e, within_same m (suc m / 2) (suc m / 2) (omega arith) (omega arith) (omega arith)) refl
+power_even = at_even (Get base ∷ []) (λ is. is ++ (Unary Square ∷ [])) (λ is. is ++ (Unary Square ∷ Get base ∷ Binary Multiply ∷ [])) power_code_within (λ halvings n. refl)
 
 -- the code of an odd power above 1 is the code of half of it, rounded down, then a squaring and a product with the base
 pub power_odd : (n : ℕ) → 1 < n → n % 2 ≢ 0 → power_code n ≡ power_code (n / 2) ++ (Unary Square ∷ Get base ∷ Binary Multiply ∷ [])
 unfolding power_code_within
-power_odd zero p e = absurd (omega arith)
-power_odd (suc m) p e =
-    rw (is_one (suc m) p, is_odd (suc m % 2) e, within_same m (suc m / 2) (suc m / 2) (omega arith) (omega arith) (omega arith)) refl
+power_odd = at_odd (Get base ∷ []) (λ is. is ++ (Unary Square ∷ [])) (λ is. is ++ (Unary Square ∷ Get base ∷ Binary Multiply ∷ [])) power_code_within (λ halvings n. refl)
 
 -- the code of the power 1 is one instruction
 pub size_one : (n : ℕ) → n ≡ 1 → length (power_code n) ≡ 1

@@ -11,58 +11,31 @@ use Rattle.fixed.proofs.numerals.with_error.Goals as goal
 pub pow-divisor-requires : goal.pow-divisor-requires
 pow-divisor-requires c = rw c.min.ensures (omega (arith, ten_capped c.args.power))
 
-pub error_of-error-requires-clause-positive : goal.error_of-error-requires-clause-positive
-error_of-error-requires-clause-positive c = rw (c.pow-divisor.ensures, c.min.ensures) (ten_pos (min c.args.power 33))
+pub error_of-error-requires : goal.error_of-error-requires
+error_of-error-requires c = record {
+  small = c.requires.small;
+  positive = rw (c.pow-divisor.ensures, c.min.ensures) (ten_pos (min c.args.power 33));
+  most = rw (c.pow-divisor.ensures, c.min.ensures) (omega (arith, ten_capped c.args.power));
+  nearest = rw (c.pow-divisor.ensures, c.min.ensures) (nearest_capped c.args.n c.args.power c.args.value c.requires.small c.requires.nearest);
+}
 
-pub error_of-error-requires-clause-most : goal.error_of-error-requires-clause-most
-error_of-error-requires-clause-most c = rw (c.pow-divisor.ensures, c.min.ensures) (omega (arith, ten_capped c.args.power))
-
-pub error_of-error-requires-clause-nearest : goal.error_of-error-requires-clause-nearest
-error_of-error-requires-clause-nearest c = rw (c.pow-divisor.ensures, c.min.ensures) (nearest_capped c.args.n c.args.power c.args.value c.requires.small c.requires.nearest)
-
-pub small_floor-requires-clause-positive : goal.small_floor-requires-clause-positive
-small_floor-requires-clause-positive c = rw (c.pow-divisor.ensures, c.min.ensures) (ten_pos (min c.args.power 33))
-
-pub small_floor-requires-clause-most : goal.small_floor-requires-clause-most
-small_floor-requires-clause-most c = rw (c.pow-divisor.ensures, c.min.ensures) (omega (arith, ten_capped c.args.power))
-
-pub small_floor-requires-clause-least : goal.small_floor-requires-clause-least
-small_floor-requires-clause-least c =
+pub small_floor-requires : goal.small_floor-requires
+small_floor-requires c =
     let d = c.pow-divisor.result in
     let p : 0 < d = rw (c.pow-divisor.ensures, c.min.ensures) (ten_pos (min c.args.power 33)) in
     let m : d ≤ 10 ^ 33 = rw (c.pow-divisor.ensures, c.min.ensures) (omega (arith, ten_capped c.args.power)) in
     let near : c.args.value ≡ nearest_of (pos c.args.n) (pos d) = rw (c.pow-divisor.ensures, c.min.ensures) (nearest_capped c.args.n c.args.power c.args.value c.requires.small c.requires.nearest) in
-    (error_bounds c.args.n d c.args.value c.error_of-error.result p m near c.error_of-error.ensures).0
+    let within = error_bounds c.args.n d c.args.value c.error_of-error.result p m near c.error_of-error.ensures in
+    record { positive = p; most = m; least = within.0; greatest = within.1 }
 
-pub small_floor-requires-clause-greatest : goal.small_floor-requires-clause-greatest
-small_floor-requires-clause-greatest c =
+pub small_floor-requires-2 : goal.small_floor-requires-2
+small_floor-requires-2 c =
     let d = c.pow-divisor.result in
     let p : 0 < d = rw (c.pow-divisor.ensures, c.min.ensures) (ten_pos (min c.args.power 33)) in
     let m : d ≤ 10 ^ 33 = rw (c.pow-divisor.ensures, c.min.ensures) (omega (arith, ten_capped c.args.power)) in
     let near : c.args.value ≡ nearest_of (pos c.args.n) (pos d) = rw (c.pow-divisor.ensures, c.min.ensures) (nearest_capped c.args.n c.args.power c.args.value c.requires.small c.requires.nearest) in
-    (error_bounds c.args.n d c.args.value c.error_of-error.result p m near c.error_of-error.ensures).1
-
-pub small_floor-requires-2-clause-positive : goal.small_floor-requires-2-clause-positive
-small_floor-requires-2-clause-positive c = rw (c.pow-divisor.ensures, c.min.ensures) (ten_pos (min c.args.power 33))
-
-pub small_floor-requires-2-clause-most : goal.small_floor-requires-2-clause-most
-small_floor-requires-2-clause-most c = rw (c.pow-divisor.ensures, c.min.ensures) (omega (arith, ten_capped c.args.power))
-
-pub small_floor-requires-2-clause-least : goal.small_floor-requires-2-clause-least
-small_floor-requires-2-clause-least c =
-    let d = c.pow-divisor.result in
-    let p : 0 < d = rw (c.pow-divisor.ensures, c.min.ensures) (ten_pos (min c.args.power 33)) in
-    let m : d ≤ 10 ^ 33 = rw (c.pow-divisor.ensures, c.min.ensures) (omega (arith, ten_capped c.args.power)) in
-    let near : c.args.value ≡ nearest_of (pos c.args.n) (pos d) = rw (c.pow-divisor.ensures, c.min.ensures) (nearest_capped c.args.n c.args.power c.args.value c.requires.small c.requires.nearest) in
-    (opposite_error c.args.n d c.args.value c.error_of-error.result p m near c.error_of-error.ensures).0
-
-pub small_floor-requires-2-clause-greatest : goal.small_floor-requires-2-clause-greatest
-small_floor-requires-2-clause-greatest c =
-    let d = c.pow-divisor.result in
-    let p : 0 < d = rw (c.pow-divisor.ensures, c.min.ensures) (ten_pos (min c.args.power 33)) in
-    let m : d ≤ 10 ^ 33 = rw (c.pow-divisor.ensures, c.min.ensures) (omega (arith, ten_capped c.args.power)) in
-    let near : c.args.value ≡ nearest_of (pos c.args.n) (pos d) = rw (c.pow-divisor.ensures, c.min.ensures) (nearest_capped c.args.n c.args.power c.args.value c.requires.small c.requires.nearest) in
-    (opposite_error c.args.n d c.args.value c.error_of-error.result p m near c.error_of-error.ensures).1
+    let within = opposite_error c.args.n d c.args.value c.error_of-error.result p m near c.error_of-error.ensures in
+    record { positive = p; most = m; least = within.0; greatest = within.1 }
 
 pub returns : goal.returns
 returns c =
