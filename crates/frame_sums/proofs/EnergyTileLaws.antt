@@ -19,8 +19,8 @@ use Rattle.integrator.proofs.ForceLaws.{ArePairsOf, frame_pairs, pairs_parts}
 use Rattle.integrator.specs.Forces.{pairs_of}
 use Rattle.integrator.specs.Frames.{Frame}
 use Rattle.integrator.specs.declared.systems.System.{System}
-use Rattle.frame_sums.proofs.ActingLaws.{worth}
 use Rattle.frame_sums.proofs.SumLaws.{over_append, over_within}
+use Rattle.frame_sums.proofs.TotalLaws.{given}
 use Rattle.potential.proofs.PotentialLaws.{HasNumber, small_parts}
 use Rattle.potential.specs.EnergyKernels.{GivesEnergy, HasEnergies}
 use Rattle.potential.specs.LaneKernels.{IsCodeValue}
@@ -91,11 +91,6 @@ module _ {A : Type 0} (s : System (SlopeKernel A) A) where
       value_given : (o : Option ℤ) (v : ℤ) → o ≡ Some v → v ≡ unwrap_or o (pos 0)
       value_given o v e = rw e refl
 
-  -- no pairs have no energy
-  pub no_energy : (found : List FoundPair) → length found ≡ 0 → pos 0 ≡ sum_over (found_energy s) found
-  no_energy [] h = refl
-  no_energy (f ∷ fs) h = absurd (omega arith)
-
   -- the energy of some pairs, and of more
   pub energy_more : (done found : List FoundPair) (z row new : ℤ) → IsEnergyOfPairs s done z → row ≡ sum_over (found_energy s) found → unsigned_abs row ≤ 2 ^ 63 * length found → new ≡ z +ℤ row
       → IsEnergyOfPairs s (done ++ found) new
@@ -105,12 +100,12 @@ module _ {A : Type 0} (s : System (SlopeKernel A) A) where
   }
 
   worth_at : (x y : Place3) (p : ℕ × ℕ) (o : Option ℤ)
-      → worth (found_energy s) (option_map {U = FoundPair} (λ a. record { low = p.0; high = p.1; acting = a }) (option_map (between s.ring x y) o)) ≡ unwrap_or (energy_at (safe_value s p) o) (pos 0)
+      → given (pos 0) (found_energy s) (option_map {U = FoundPair} (λ a. record { low = p.0; high = p.1; acting = a }) (option_map (between s.ring x y) o)) ≡ unwrap_or (energy_at (safe_value s p) o) (pos 0)
   worth_at x y p None = refl
   worth_at x y p (Some r) = refl
 
   -- the energy found for a pair, or 0 if the pair isn't found, is the energy of the pair
-  pub energy_worth : (frame : Frame) (p : ℕ × ℕ) → worth (found_energy s) (found_of s frame p) ≡ energy_between s frame p
+  pub energy_worth : (frame : Frame) (p : ℕ × ℕ) → given (pos 0) (found_energy s) (found_of s frame p) ≡ energy_between s frame p
   energy_worth frame p =
       let x = places_of frame p.0 in
       let y = places_of frame p.1 in
@@ -118,12 +113,12 @@ module _ {A : Type 0} (s : System (SlopeKernel A) A) where
 
   -- ---- all pairs
 
-  module _ (accepted : IsSafeSystem s) (given : AllHaveEnergies s) (frame : Frame) where
+  module _ (accepted : IsSafeSystem s) (had : AllHaveEnergies s) (frame : Frame) where
     number_at : (i j : ℕ) → i < length s.types.items → j < length s.types.items → (o : Option ℤ) → ((r : ℤ) → o ≡ Some r → (s.core ≤ℤ r) × (r <ℤ s.cutoff)) → HasNumber (2 ^ 64) (energy_at (safe_value s (i, j)) o)
     number_at i j first second None range = record { v = pos 0; has = refl; small = omega (arith, ints) }
     number_at i j first second (Some r) range =
         let within = range r refl in
-        small_parts (2 ^ 64) (safe_value s (i, j) r) (given (slice_index s.types.items i) (slice_index s.types.items j) r (accepted.known i 0 first) (accepted.known j 0 second) within.0 within.1)
+        small_parts (2 ^ 64) (safe_value s (i, j) r) (had (slice_index s.types.items i) (slice_index s.types.items j) r (accepted.known i 0 first) (accepted.known j 0 second) within.0 within.1)
 
     has_number : (i j : ℕ) → i < j → j < length s.types.items → HasNumber (2 ^ 64) (between_atoms frame (i, j))
     has_number i j apart below =

@@ -1,5 +1,5 @@
 -- The interacting pairs of a frame, list by list: their sums equal the sums over all pairs of the frame.
-use Rattle.std.proofs.Common.{◌≡◌, ℕ, ◌+◌, ◌*◌, ◌%◌, ◌^◌, ◌<◌, ◌≤◌, List, [], ◌∷◌, ◌++◌, length, map, take, ℤ, Some, drop, arith, append-nil, refl, ap, ap₂, subst, sym, ◌∙◌, slice_index_or, unsigned_abs, flat_map}
+use Rattle.std.proofs.Common.{◌≡◌, ℕ, ◌+◌, ◌*◌, ◌%◌, ◌^◌, ◌<◌, ◌≤◌, List, [], ◌∷◌, ◌++◌, length, map, take, ℤ, pos, ◌+ℤ◌, Some, drop, arith, append-nil, refl, ap, ap₂, subst, sym, ◌∙◌, slice_index_or, unsigned_abs, flat_map}
 use Rattle.std.proofs.lemmas.Grind.{flat_map-append, take_at_read}
 use Rattle.std.proofs.lemmas.List.{append_assoc, length-append, map-append, take-append-drop}
 use Rattle.cell_tiles.specs.Near.{pair_acts}
@@ -15,11 +15,11 @@ use Rattle.integrator.specs.Forces.{pairs_of}
 use Rattle.integrator.specs.Frames.{Frame}
 use Rattle.integrator.specs.declared.systems.System.{System}
 use Rattle.potential.specs.declared.slope_kernels.SlopeKernel.{SlopeKernel}
-use Rattle.frame_sums.proofs.ActingLaws.{one_sum, worth}
 use Rattle.frame_sums.proofs.EnergyTileLaws.{all_told, energy_small, energy_worth}
-use Rattle.frame_sums.proofs.FrameSumLaws.{alike, same_over_pairs}
+use Rattle.frame_sums.proofs.FrameSumLaws.{total_of_found}
 use Rattle.frame_sums.proofs.RowLaws.{all_found}
 use Rattle.frame_sums.proofs.TileLaws.{frame_round}
+use Rattle.frame_sums.proofs.TotalLaws.{integer_total, integers}
 use Rattle.frame_sums.specs.ForceSums.{AreForcesOfPairs}
 use Rattle.frame_sums.specs.Rounds.{AreForces, add_of, plan_of}
 use Rattle.frame_sums.specs.Rows.{AreNextFound, add_found, found_in, found_of, pairs_found, reach_of}
@@ -111,7 +111,8 @@ module _ {A : Type 0} (s : System (SlopeKernel A) A) (frame : Frame) where
         let n = length frame in
         let pairs = frame_pairs n 0 n (omega arith) in
         let sum : sum_over (found_energy s) (pairs_found s frame lists) ≡ sum_over (energy_between s frame) (pairs_of n) =
-        one_sum (found_of s frame) lists (pairs_of n) (alike s accepted frame lists are atoms) (found_energy s)
-        ∙ same_over_pairs (λ p. worth (found_energy s) (found_of s frame p)) (energy_between s frame) n (λ i j ordered below. energy_worth s frame (i, j)) (pairs_of n) pairs in
+        integer_total (found_energy s) (pairs_found s frame lists)
+        ∙ (total_of_found s accepted frame lists are atoms (pos 0) (λ a b. a +ℤ b) integers (found_energy s) (energy_between s frame) (λ i j ordered below. energy_worth s frame (i, j))
+        ∙ sym (integer_total (energy_between s frame) (pairs_of n))) in
         let told : IsEnergyOf s frame z = all_told s accepted had frame n (pairs_of n) (omega (arith, atoms)) pairs ∙ ap Some (sym (is.value ∙ sum)) in
         (subst (λ u. IsEnergyOf u frame z) same told, energy_small s accepted had frame z atoms told)

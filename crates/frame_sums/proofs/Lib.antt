@@ -1,6 +1,5 @@
 pub mod SumLaws
 pub mod TotalLaws
-pub mod ActingLaws
 pub mod FieldLaws
 pub mod CoreLaws
 pub mod PairSumLaws

@@ -15,7 +15,8 @@ use Rattle.observables.specs.Bounds.{AreAllWithin, AreBounded}
 use Rattle.observables.specs.declared.observations.PairSums.{PairSums}
 use Rattle.frame_sums.specs.PairSums.{AreSumsOfPairs, no_sums, no_tensor, plus_sums, plus_tensors, sums_of, sums_over}
 use Rattle.frame_sums.specs.Sums.{lesser}
-use Rattle.frame_sums.proofs.TotalLaws.{IsAddition, total_append, total_one}
+use Rattle.cell_tiles.proofs.SumLemmas.{IsAddition}
+use Rattle.frame_sums.proofs.TotalLaws.{total_append, total_one}
 
 -- ---- tensors
 

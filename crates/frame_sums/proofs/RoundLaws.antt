@@ -1,5 +1,5 @@
 -- The sums of a round over the tiles of a frame are the exact forces on its atoms.
-use Rattle.std.proofs.Common.{◌≡◌, ℕ, zero, suc, ◌+◌, ◌-◌, ◌*◌, ◌%◌, ◌^◌, ◌<◌, ◌≤◌, Bool, true, false, List, [], ◌∷◌, length, ℤ, pos, ◌+ℤ◌, Option, Some, None, arith, refl, ap, sym, ◌∙◌, zero-add, add-zero, map, sum_by, option_map, unwrap_or, neg_ℤ, is_some, ◌==◌, if◌then◌else◌, FitsSigned, ext_get_or, true≢false}
+use Rattle.std.proofs.Common.{◌≡◌, ℕ, zero, suc, ◌+◌, ◌-◌, ◌*◌, ◌%◌, ◌^◌, ◌<◌, ◌≤◌, Bool, true, false, List, [], ◌∷◌, ℤ, pos, ◌+ℤ◌, Option, Some, None, arith, refl, ap, sym, ◌∙◌, add-zero, map, sum_by, option_map, unwrap_or, neg_ℤ, is_some, ◌==◌, if◌then◌else◌, FitsSigned, true≢false}
 use Rattle.std.specs.Int.{w64, cast_signed}
 use Rattle.std.specs.List.{list_all}
 use Rattle.std.proofs.lemmas.Int.{ints, fits_signed_from_abs}
@@ -18,7 +18,7 @@ use Rattle.ring_box.specs.declared.vectors.Vector.{Vector}
 use Rattle.integrator.specs.Forces.{force_or_none, forces_of, negative, numbers_from, pairs_of, plus, share_of, sum_of_shares}
 use Rattle.integrator.proofs.BoundLaws.{forces_within}
 use Rattle.integrator.proofs.ForceLaws.{ArePairsOf, frame_pairs, pairs_parts}
-use Rattle.integrator.proofs.NumberLaws.{at_number, length-numbers}
+use Rattle.integrator.proofs.NumberLaws.{length-numbers, made_of_numbers, number_at}
 use Rattle.frame_sums.proofs.SafeLaws.{HasForce}
 use Rattle.frame_sums.specs.Rounds.{forces_from, forces_in, pair_add}
 
@@ -188,8 +188,6 @@ module _ (b n : ℕ) (force : ℕ × ℕ → Option (Vector ℤ)) (add : ℕ × 
     pub round_forces : forces_of force n ≡ Some (forces_from sums n)
     round_forces =
         let g = sum_of_shares (force_or_none force) (pairs_of n) in
-        let alike : length (map g (numbers_from 0 n)) ≡ length (forces_from sums n) = length-numbers g 0 n ∙ sym (length-numbers (forces_in sums) 0 n) in
-        let each : map g (numbers_from 0 n) ≡ forces_from sums n = ext_get_or no_force (map g (numbers_from 0 n)) (forces_from sums n) alike (λ a l.
-        let k : a < n = omega (arith, length-numbers g 0 n) in
-        at_number g no_force 0 n a k ∙ ap g (zero-add a) ∙ sym (force_is a k) ∙ sym (at_number (forces_in sums) no_force 0 n a k ∙ ap (forces_in sums) (zero-add a))) in
-        rw (forces_there (pairs_of n) all_pairs) (ap Some each)
+        let same : forces_from sums n ≡ map g (numbers_from 0 n) =
+        made_of_numbers g no_force n (forces_from sums n) (length-numbers (forces_in sums) 0 n) (λ a l. number_at (forces_in sums) no_force n a l ∙ force_is a l) in
+        rw (forces_there (pairs_of n) all_pairs) (ap Some (sym same))

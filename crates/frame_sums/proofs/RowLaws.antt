@@ -1,11 +1,12 @@
 -- Interacting pairs in batches: the pairs found have the forces of all interacting pairs.
-use Rattle.std.proofs.Common.{◌≡◌, ℕ, zero, suc, ◌+◌, ◌^◌, ◌<◌, ◌≤◌, append-nil, cond, false, min, List, [], ◌∷◌, ◌++◌, length, map, filter, take, drop, ℤ, pos, Option, Some, None, arith, refl, ap, ap₂, sym, ◌∙◌, is_some, neg_ℤ, option_map, slice_get, slice_index, All, true≢false, take-add, inl, inr, get_or, subst}
+use Rattle.std.proofs.Common.{◌≡◌, ℕ, zero, suc, ◌+◌, ◌^◌, ◌<◌, ◌≤◌, cond, false, min, List, [], ◌∷◌, ◌++◌, length, map, filter, take, drop, ℤ, pos, Option, Some, None, arith, refl, ap, ap₂, sym, ◌∙◌, is_some, neg_ℤ, option_map, slice_get, slice_index, All, true≢false, take-add, inl, inr, get_or, subst}
 use Rattle.std.specs.Prelude.{◌≤ℤ◌, ◌<ℤ◌}
 use Rattle.ring_box.specs.PairForces.{force_in}
 use Rattle.std.proofs.lemmas.Bool.{cases_lt}
 use Rattle.std.proofs.lemmas.List.Elements.{All-cons, All-get_or, All-map}
 use Rattle.std.proofs.lemmas.Option.{get_or_from_slice_get, same_Some, slice_get-get_or, slice_get-map, slice_get_within}
-use Rattle.std.proofs.lemmas.List.{drop-map, get_or-map, length-append, length-drop, length-map, length-take, map-append, take-map}
+use Rattle.std.proofs.lemmas.Simd.{map-map}
+use Rattle.std.proofs.lemmas.List.{drop-map, get_or-map, length-drop, length-map, length-take, map-append, take-map}
 use Rattle.kernel_lanes.specs.Flats.{query_at}
 use Rattle.kernel_lanes.specs.Lanes.{IsServed}
 use Rattle.kernel_lanes.specs.declared.queries.Query.{Query}
@@ -19,13 +20,13 @@ use Rattle.ring_box.proofs.ActingLemmas.{halves, taken}
 use Rattle.ring_box.proofs.ForceLemmas.{max_high, max_low}
 use Rattle.cell_tiles.specs.Near.{AreNear, pair_acts, those_acting}
 use Rattle.pair_lists.proofs.ListingLemmas.{from_start}
-use Rattle.rounds.proofs.ActingLemmas.{acting_append, acting_next, take_next}
+use Rattle.rounds.proofs.ActingLemmas.{acting_append, take_next}
 use Rattle.rounds.specs.Tiles.{AreNextActing, IsPairOf, acting}
 use Rattle.rounds.specs.declared.work.PairAdd.{PairAdd}
 use Rattle.ring_box.specs.Places.{places_of}
 use Rattle.integrator.specs.Frames.{Frame}
 use Rattle.integrator.specs.declared.systems.System.{System}
-use Rattle.frame_sums.proofs.ActingLaws.{few_act}
+use Rattle.frame_sums.proofs.TotalLaws.{few_act}
 use Rattle.frame_sums.specs.Rounds.{add_of, pair_add}
 use Rattle.frame_sums.specs.Rows.{adds_from, AreFoundForces, AreNextFound, AreSlopes, IsFound, IsSlope, add_found, minus_slope_for, query_of, found_in, found_of, reach_of}
 use Rattle.ring_box.specs.declared.pair_forces.PairForces.{PairForces}
@@ -57,10 +58,6 @@ acting_mapped : {X Y : Type 0} (g : X → Y) (os : List (Option X)) → acting (
 acting_mapped g [] = refl
 acting_mapped g (None ∷ os) = acting_mapped g os
 acting_mapped g (Some x ∷ os) = ap (λ ys. g x ∷ ys) (acting_mapped g os)
-
-mapped_twice : {P X Y : Type 0} (f : P → Option X) (g : X → Y) (h : P → Option Y) → ((p : P) → option_map g (f p) ≡ h p) → (ps : List P) → map (option_map g) (map f ps) ≡ map h ps
-mapped_twice f g h same [] = refl
-mapped_twice f g h same (p ∷ ps) = ap₂ (λ y ys. y ∷ ys) (same p) (mapped_twice f g h same ps)
 
 -- no element has no image
 none_mapped : {X Y : Type 0} (f : X → Y) (o : Option X) → is_some o ≡ false → option_map f o ≡ None
@@ -158,7 +155,7 @@ module _ {A : Type 0} (s : System (SlopeKernel A) A) where
   -- the forces of the interacting pairs of a list are the forces of the pairs found in the list
   pub all_found : (frame : Frame) (ps : List (ℕ × ℕ)) → acting (map (add_of s frame) ps) ≡ map (add_found s) (acting (map (found_of s frame) ps))
   all_found frame ps =
-      ap acting (sym (mapped_twice (found_of s frame) (add_found s) (add_of s frame) (found_adds frame) ps)) ∙ acting_mapped (add_found s) (map (found_of s frame) ps)
+      ap acting (sym (map-map (option_map (add_found s)) (found_of s frame) ps ∙ (λ i. map (λ p. found_adds frame p i) ps))) ∙ acting_mapped (add_found s) (map (found_of s frame) ps)
 
   -- a pair that doesn't interact isn't found
   pub not_found : (frame : Frame) (p : ℕ × ℕ) → pair_acts (reach_of s) s.ring frame p ≡ false → found_of s frame p ≡ None

@@ -1,9 +1,7 @@
-use Rattle.std.proofs.Common.{◌≡◌, ◌∙◌, ◌-◌, ◌^◌, ◌++◌, All, List, [], ap, arith, length, map, refl, subst, sym, take, take_all}
+use Rattle.std.proofs.Common.{◌≡◌, ◌∙◌, ◌-◌, ◌^◌, ◌++◌, List, [], ap, arith, length, map, refl, subst, sym, take, take_all}
 use Rattle.std.proofs.lemmas.List.{length-append, length-map, length-take, map-append}
-use Rattle.std.proofs.lemmas.List.Elements.{All-map}
 use Rattle.std.proofs.lemmas.Option.{get_or_from_slice_get}
 use Rattle.ring_box.specs.declared.found_pairs.FoundPair.{FoundPair}
-use Rattle.rounds.specs.Tiles.{IsPairOf}
 use Rattle.rounds.specs.declared.work.PairAdd.{PairAdd}
 use Rattle.frame_sums.proofs.PairSumLaws.{bounded_weaker, sums_next}
 use Rattle.frame_sums.proofs.RowLaws.{add_is_pair, adds_are, adds_length}
