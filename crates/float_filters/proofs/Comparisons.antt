@@ -11,6 +11,7 @@ use Rattle.std.proofs.lemmas.Float as order
 use Rattle.std.proofs.lemmas.Bool.{cases_eq}
 use Rattle.float_filters.specs.Near.{denominator}
 use Rattle.float_filters.specs.Floors.{positive_part, negative_part, IsFinite, IsDifference, IsLess, IsAtLeast}
+use Rattle.float_filters.proofs.Fractions.{denominator_pos}
 use Rattle.float_filters.proofs.Differences.{IsSigned, IsRounded, rounded_le, from_value}
 
 -- ---- a float that fits is its own rounding
@@ -75,12 +76,6 @@ pub own : (x : Float) → IsFinite x → IsDifference x (positive_part x) (negat
 own nan t = absurd t
 own (inf s) t = absurd t
 own (fin s m e) t = record { finite = tt; value = refl }
-
--- denominators are positive
-pub denominator_pos : (x : Float) → 0 < denominator x
-denominator_pos nan = omega arith
-denominator_pos (inf s) = omega arith
-denominator_pos (fin s m e) = down_pos e
 
 -- ---- less than a float
 

@@ -4,10 +4,9 @@ use Rattle.std.proofs.lemmas.Nat.{mul-le}
 use Rattle.std.proofs.Math.Nat.{mul-le-mul_right, le_of_mul-le-mul_right, mul-pos, mul-le-mul, le_trans, lt_of_not-le, not-le_of_lt, le-div_iff_mul-le, div-lt_iff_lt-mul}
 use Rattle.std.specs.Float.Ieee.{Float}
 use Rattle.fixed.specs.Roots.{root}
-use Rattle.fixed.proofs.RootLemmas.{root_is}
+use Rattle.fixed.proofs.RootLemmas.{le_of_squares, root_is}
 use Rattle.float_filters.specs.Near.{IsNearRoot, numerator, denominator}
-use Rattle.float_filters.proofs.Rounding.{denominator_positive}
-use Rattle.float_filters.proofs.RootLaws.{square_le}
+use Rattle.float_filters.proofs.Fractions.{denominator_pos}
 
 -- ---- p = a / d and m = b / d, with n + m <= p <= n + 1 - m and m >= 2^-50 p
 
@@ -50,7 +49,7 @@ pub floor_decided : (x : Float) (t u n b e : ℕ) → 0 < u → 0 < e → IsNear
 floor_decided x t u n b e U E near low high margin =
     let p = numerator x in
     let d = denominator x in
-    let D : 0 < d * e = mul-pos (denominator_positive x) E in
+    let D : 0 < d * e = mul-pos (denominator_pos x) E in
     let below = margin_low (p * e) (b * d) (d * e) n (omega (arith, low)) margin in
     let above = margin_high (p * e) (b * d) (d * e) n (omega (arith, high)) margin in
     let first = floor_low (p * e) (d * e) n t (u * u) D below (common_high p e d t (u * u) ((2 ^ 53) ^ 11) ((2 ^ 53 + 1) ^ 11) near.near.high) in
@@ -75,7 +74,7 @@ root_quotient t u q U low high =
 -- 2^49 (1 + 2^-40) m.
 pub margin_of_root : (x m : Float) (s t c : ℕ) → 0 < c → s ≤ t → IsNearRoot 11 x s c → IsNearRoot 11 m t (c * 2 ^ 98)
     → numerator x * denominator m * 2 ^ 40 ≤ numerator m * denominator x * (2 ^ 49 * (2 ^ 40 + 1))
-margin_of_root x m s t c C h f g = square_le _ _ (squares (numerator x) (denominator x) (numerator m) (denominator m) s t c C h f.near.high g.near.low)
+margin_of_root x m s t c C h f g = le_of_squares _ _ (squares (numerator x) (denominator x) (numerator m) (denominator m) s t c C h f.near.high g.near.low)
   where
     squares : (p d q e s t c : ℕ) → 0 < c → s ≤ t → p * p * c * (2 ^ 53) ^ 11 ≤ s * (2 ^ 53 + 1) ^ 11 * (d * d)
         → t * (2 ^ 53 - 1) ^ 11 * (e * e) ≤ q * q * (c * 2 ^ 98) * (2 ^ 53) ^ 11

@@ -4,11 +4,11 @@ use Rattle.std.proofs.lemmas.Bool.{cases_lt}
 use lib.Ieee.{Float, nan, inf, fin, binary64, round, fits, up}
 use lib.Ieee.Fits.{down_pos}
 use Rattle.float_filters.specs.Near.{denominator, numerator, HasSign, IsNearSigned}
-use Rattle.float_filters.proofs.Fractions.{IsZeroOrModerate}
+use Rattle.float_filters.proofs.Fractions.{denominator_pos, IsZeroOrModerate}
 use Rattle.float_filters.specs.Floors.{positive_part, negative_part, IsFinite, IsLess, IsAtLeast}
 use Rattle.float_filters.proofs.FloatLaws.{round_near}
 use Rattle.float_filters.proofs.Differences.{IsSigned, IsRounded}
-use Rattle.float_filters.proofs.Comparisons.{denominator_pos, parts}
+use Rattle.float_filters.proofs.Comparisons.{parts}
 
 -- ---- parts of floats with a sign
 

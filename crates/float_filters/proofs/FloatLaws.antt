@@ -7,15 +7,15 @@ use borrow.Author.Tests.{ne_eqb}
 use lib.Dec.{leb→le}
 use lib.Ieee.Exact.{HasValue, round_exact}
 use Rattle.float_filters.specs.Near.{IsFractionNear, IsNearSigned, HasSign, numerator, denominator}
-use Rattle.float_filters.proofs.Fractions.{IsModerate, IsZeroOrModerate, near_after, near_grows, near_times, near_plus, near_over}
-use Rattle.float_filters.proofs.Rounding.{denominator_positive, IsNext, exact_near, near_of_next, rounded_next}
+use Rattle.float_filters.proofs.Fractions.{no_factor, denominator_pos, IsModerate, IsZeroOrModerate, near_after, near_grows, near_times, near_plus, near_over}
+use Rattle.float_filters.proofs.Rounding.{IsNext, exact_near, near_of_next, rounded_next}
 
 -- ---- the range in which one rounding is near
 
 -- the number of factors of a float may grow
 pub float_grows : (k j : ℕ) (s : Bool) (x : Float) (a c : ℕ) → k ≤ j → IsNearSigned k s x a c → IsNearSigned j s x a c
 float_grows k j s x a c h g =
-    record { sign = g.sign; near = near_grows k j (numerator x) (denominator x) a c (denominator_positive x) h g.near }
+    record { sign = g.sign; near = near_grows k j (numerator x) (denominator x) a c (denominator_pos x) h g.near }
 
 zero_near : (s : Bool) (d : ℕ) → 0 < d → IsNearSigned 1 s (round binary64 s 0 d) 0 d
 zero_near s d D =
@@ -67,14 +67,10 @@ widened_high n d a c s q t u C g m h =
 -- a fraction near one that is 0, or isn't too great or too small, is so too, with 100 more binary places
 pub moderate_of_near : (b k n d a c : ℕ) → 0 < c → k ≤ 100 → IsZeroOrModerate b a c → IsFractionNear k n d a c
     → IsZeroOrModerate (b + 100) n d
-moderate_of_near b k n d a c C h (inl e) g = inl (none n _ (mul-pos C (one-le-pow k (2 ^ 53) (omega arith))) (empty n c _ _ d (subst (λ x. n * c * (2 ^ 53) ^ k ≤ x * (2 ^ 53 + 1) ^ k * d) e g.high)))
+moderate_of_near b k n d a c C h (inl e) g = inl (no_factor n _ (mul-pos C (one-le-pow k (2 ^ 53) (omega arith))) (empty n c _ _ d (subst (λ x. n * c * (2 ^ 53) ^ k ≤ x * (2 ^ 53 + 1) ^ k * d) e g.high)))
   where
     empty : (n c q s d : ℕ) → n * c * q ≤ 0 * s * d → n * (c * q) ≤ 0
     empty n c q s d h = omega arith
-
-    none : (n m : ℕ) → 0 < m → n * m ≤ 0 → n ≡ 0
-    none zero m M h = refl
-    none (suc n) m M h = absurd (omega arith)
 moderate_of_near b k n d a c C h (inr m) g =
     inr (record {
       low = rw (pow-add 2 b 100) (widened_low n d a c ((2 ^ 53 - 1) ^ k) ((2 ^ 53) ^ k) (2 ^ 100) (2 ^ b) (mul-pos C (one-le-pow k (2 ^ 53 - 1) (omega arith))) (twice_less k h) m.low g.low);
@@ -113,7 +109,7 @@ pub near_product : (k j : ℕ) (s t : Bool) (x y : Float) (a c b e : ℕ) → 0 
     → IsNearSigned k s x a c → IsNearSigned j t y b e → IsNearSigned (k + j + 1) (unlike s t) (mul binary64 x y) (a * b) (c * e)
 near_product k j s t x y a c b e C E h m f g =
     rw (product_is s t x y f.sign g.sign)
-    (rounded_after (k + j) (unlike s t) _ _ _ _ (mul-pos (denominator_positive x) (denominator_positive y)) (mul-pos C E) h m (near_times k j _ _ _ _ a c b e f.near g.near))
+    (rounded_after (k + j) (unlike s t) _ _ _ _ (mul-pos (denominator_pos x) (denominator_pos y)) (mul-pos C E) h m (near_times k j _ _ _ _ a c b e f.near g.near))
 
 -- ---- sums
 
@@ -132,7 +128,7 @@ pub near_sum : (k : ℕ) (s : Bool) (x y : Float) (a c b e : ℕ) → 0 < c → 
     → IsNearSigned k s x a c → IsNearSigned k s y b e → IsNearSigned (k + 1) s (add binary64 x y) (a * e + b * c) (c * e)
 near_sum k s x y a c b e C E h m f g =
     rw (sum_is s x y f.sign g.sign)
-    (rounded_after k s _ _ _ _ (mul-pos (denominator_positive x) (denominator_positive y)) (mul-pos C E) h m (near_plus k _ _ _ _ a c b e f.near g.near))
+    (rounded_after k s _ _ _ _ (mul-pos (denominator_pos x) (denominator_pos y)) (mul-pos C E) h m (near_plus k _ _ _ _ a c b e f.near g.near))
 
 -- ---- quotients
 
@@ -163,6 +159,6 @@ pub near_quotient : (k j : ℕ) (s t : Bool) (x y : Float) (a c b e : ℕ) → 0
     → IsZeroOrModerate 200 (a * e) (c * b)
     → IsNearSigned k s x a c → IsNearSigned j t y b e → IsNearSigned (k + (j + j) + 1) (unlike s t) (div binary64 x y) (a * e) (c * b)
 near_quotient k j s t x y a c b e C B h m f g =
-    let some : 0 < numerator y = some_of_near j _ _ b e B (denominator_positive y) g.near in
+    let some : 0 < numerator y = some_of_near j _ _ b e B (denominator_pos y) g.near in
     rw (quotient_is s t x y f.sign g.sign some, mul_comm (numerator y) (denominator x))
-    (rounded_after (k + (j + j)) (unlike s t) _ _ _ _ (mul-pos (denominator_positive x) some) (mul-pos C B) h m (near_over k j _ _ _ _ a c b e f.near g.near))
+    (rounded_after (k + (j + j)) (unlike s t) _ _ _ _ (mul-pos (denominator_pos x) some) (mul-pos C B) h m (near_over k j _ _ _ _ a c b e f.near g.near))

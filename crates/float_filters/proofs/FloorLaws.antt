@@ -5,9 +5,10 @@ use lib.Ieee.Fits.{add-fits, sub-fits}
 use lib.Ieee.Digits.{size-lt, size-le}
 use Rattle.float_filters.specs.Near.{denominator}
 use Rattle.float_filters.specs.Floors.{positive_part, negative_part, IsFinite, IsDifference, IsZero, half, minus_half, middle, halved, IsInteger, IsCertified}
+use Rattle.float_filters.proofs.Fractions.{denominator_pos}
 use Rattle.float_filters.proofs.Differences.{IsSigned, IsRounded, adds, subtracts, same_rounded, whole_exact}
 use Rattle.float_filters.proofs.RestLaws.{integer_near, rest_exact}
-use Rattle.float_filters.proofs.Comparisons.{own, denominator_pos, less_value, at_least_value, finite_rounded, rounded_at_most, rounded_at_least, rounded_above_minus, large_whole}
+use Rattle.float_filters.proofs.Comparisons.{own, less_value, at_least_value, finite_rounded, rounded_at_most, rounded_at_least, rounded_above_minus, large_whole}
 
 pub half_value : IsDifference half 1 0 2
 half_value = record { finite = tt; value = refl }

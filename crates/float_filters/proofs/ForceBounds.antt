@@ -2,11 +2,8 @@
 -- are the magnitudes of g and a, L is the integer root of s; r is rn / rd, D is dn / dd, the ratio is qn / qd, x is xn / xd and c is
 -- cn / cd.
 use Rattle.std.proofs.Common.{◌≡◌, ℕ, suc, ◌+◌, ◌-◌, ◌*◌, ◌^◌, ◌<◌, ◌≤◌, ap, arith, le_trans, mul-le-mul_right, mul-le-mul, le_of_mul-le-mul_right, mul-pos, mul-lt-mul_of_pos_right, lt_of_mul-lt-mul_right, lt_of_not-le, lit≤, le_of_suc-le-suc}
+use Rattle.fixed.proofs.RootLemmas.{le_of_squares}
 use Rattle.float_filters.specs.Near.{IsFractionNear}
-
--- a square root of a square is at most the root of a larger square
-root_le : (a b : ℕ) → a * a ≤ b * b → a ≤ b
-root_le a b h = le_of_suc-le-suc (lt_of_not-le (λ (g : suc b ≤ a). let k = mul-le-mul g g in absurd (omega arith)))
 
 -- the integer root bounds each number whose square is at most s
 pub below_root : (A L s : ℕ) → A * A ≤ s → s < (L + 1) * (L + 1) → A ≤ L
@@ -21,7 +18,7 @@ root_high rn rd s L h g =
     let b : s * (2 ^ 53 + 1) ^ 7 * (rd * rd) ≤ (L + 1) * (L + 1) * ((2 ^ 53 + 5) * (2 ^ 53 + 5) * (2 ^ 53) ^ 5) * (rd * rd) =
     mul-le-mul_right (rd * rd) (mul-le-mul (le_trans (omega arith) g) few) in
     let c : rn * 2 ^ 53 * (rn * 2 ^ 53) * (2 ^ 53) ^ 5 ≤ (L + 1) * (2 ^ 53 + 5) * rd * ((L + 1) * (2 ^ 53 + 5) * rd) * (2 ^ 53) ^ 5 = omega arith in
-    root_le (rn * 2 ^ 53) ((L + 1) * (2 ^ 53 + 5) * rd) (le_of_mul-le-mul_right c (lit≤ tt))
+    le_of_squares (rn * 2 ^ 53) ((L + 1) * (2 ^ 53 + 5) * rd) (le_of_mul-le-mul_right c (lit≤ tt))
 
 pub root_low : (rn rd s L : ℕ) → IsFractionNear 7 (rn * rn) (rd * rd) s 1 → L * L ≤ s → L * (2 ^ 53 - 5) * rd ≤ rn * 2 ^ 53
 root_low rn rd s L h g =
@@ -30,7 +27,7 @@ root_low rn rd s L h g =
     let b : L * L * ((2 ^ 53 - 5) * (2 ^ 53 - 5) * (2 ^ 53) ^ 5) * (rd * rd) ≤ s * (2 ^ 53 - 1) ^ 7 * (rd * rd) =
     mul-le-mul_right (rd * rd) (mul-le-mul g few) in
     let c : L * (2 ^ 53 - 5) * rd * (L * (2 ^ 53 - 5) * rd) * (2 ^ 53) ^ 5 ≤ rn * 2 ^ 53 * (rn * 2 ^ 53) * (2 ^ 53) ^ 5 = omega arith in
-    root_le (L * (2 ^ 53 - 5) * rd) (rn * 2 ^ 53) (le_of_mul-le-mul_right c (lit≤ tt))
+    le_of_squares (L * (2 ^ 53 - 5) * rd) (rn * 2 ^ 53) (le_of_mul-le-mul_right c (lit≤ tt))
 
 -- g is at most the ratio times L + 1/2 and 9 parts in 2^53
 pub slope_high : (rn rd dn dd qn qd G L : ℕ) → 0 < rd → 0 < dd → rd ≤ 2 * rn → rn * 2 ^ 53 ≤ (L + 1) * (2 ^ 53 + 5) * rd

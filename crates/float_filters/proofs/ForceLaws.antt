@@ -4,16 +4,16 @@ use Rattle.std.proofs.lemmas.Int.{ints}
 use lib.Ieee.{Float, nan, inf, fin, binary64, round, neg, lt, le, eq, mul, sub, fits, unlike, up, down}
 use lib.Ieee.Fits.{mul-fits, sub-fits}
 use Rattle.fixed.specs.Roots.{root}
-use Rattle.fixed.proofs.RootLemmas.{root_is}
+use Rattle.fixed.proofs.RootLemmas.{below_next, root_is}
 use lib.IntN.{pos-*ℤ-pos, pos-*ℤ-negsuc, negsuc-*ℤ-pos, negsuc-*ℤ-negsuc}
 use Rattle.fixed.specs.Rounding.{IsFloor}
 use Rattle.float_filters.specs.Near.{denominator, numerator, HasSign, IsNearInteger, IsNearSigned, IsNearRoot, IsFractionNear}
 use Rattle.float_filters.specs.Floors.{positive_part, negative_part, IsFinite, IsZero, half, minus_half, halved, IsInteger, IsCertified, IsDifference}
 use Rattle.float_filters.specs.Forces.{magnitude, ratio_of, margin_of, room_of, least_of, float_component_of, IsSlack, IsLine, IsSize}
-use Rattle.float_filters.proofs.Fractions.{IsModerate, IsZeroOrModerate, near_itself}
+use Rattle.float_filters.proofs.Fractions.{no_factor, denominator_pos, IsModerate, IsZeroOrModerate, near_itself}
 use Rattle.float_filters.proofs.FloatLaws.{round_near, near_product, near_quotient}
 use Rattle.float_filters.proofs.Differences.{IsSigned, IsRounded, subtracts, same_rounded}
-use Rattle.float_filters.proofs.Comparisons.{own, denominator_pos, less_value}
+use Rattle.float_filters.proofs.Comparisons.{own, less_value}
 use Rattle.float_filters.proofs.FloorLaws.{half_exact, half_value, halved_rounded, halved_zero, zero_parts}
 use Rattle.float_filters.proofs.ErrorLaws.{not_negative, not_positive, signed_finite, less_finite, at_least_finite, rounding_error, half_apart, above_floor, below_floor}
 use Rattle.float_filters.proofs.ForceBounds.{root_high, root_low, below_root, slope_high, slope_low, part_low, part_high, close_high, close_low, margin_above, margin_below, margin_size, ratio_some, wide, floor_above, floor_below}
@@ -49,6 +49,9 @@ halved_near r h some low high = by q.0 q.1 q.2 q.3
         let j : halved r ≡ round binary64 false (2 * numerator r - denominator r) (2 * denominator r) = is ∙ (λ i. round binary64 false (m i) (d i)) in
         subst (λ (y : Float). IsNearSigned 1 false y (2 * numerator r - denominator r) (2 * denominator r)) (sym j)
         (round_near false (2 * numerator r - denominator r) (2 * denominator r) (omega arith) (inr (record { low = omega arith; high = omega arith })))
+
+positive : (dn dd : ℕ) → 0 < dd → dd ≤ 8 * dn → 0 < dn
+positive dn dd p h = omega arith
 
 divisor_low : (rn rd dn dd : ℕ) → 0 < rd → rd ≤ 2 * (2 * rn - rd) → (2 * rn - rd) * (2 ^ 53 - 1) * dd ≤ dn * (2 * rd) * 2 ^ 53 → dd ≤ 8 * dn
 divisor_low rn rd dn dd RD h d =
@@ -115,9 +118,6 @@ ratio_is s L G sg g r L0 Lm below above G0 Gm length slope =
       low = slope_low rn rd dn dd qn qd G L RD DD (half_of rn rd some.0) rl dlow qhigh;
     }
   where
-    positive : (dn dd : ℕ) → 0 < dd → dd ≤ 8 * dn → 0 < dn
-    positive dn dd p h = omega arith
-
     half_of : (rn rd : ℕ) → rd < 2 * rn → rd ≤ 2 * rn
     half_of rn rd h = omega arith
 
@@ -459,9 +459,6 @@ divisor_is s L r L0 Lm below above length =
     let some = length_low rn rd L L0 RD (root_low rn rd s L length.near below) in
     let near = halved_near r length.sign some.0 some.1 (length_high rn rd L Lm (root_high rn rd s L length.near above)) in
     (near.sign, positive _ _ (denominator_pos (halved r)) (divisor_low rn rd _ _ RD some.1 near.near.low))
-  where
-    positive : (dn dd : ℕ) → 0 < dd → dd ≤ 8 * dn → 0 < dn
-    positive dn dd p h = omega arith
 
 certify : (s : Bool) (c room least t : Float) → HasSign s c → numerator c ≤ 2 ^ 50 * denominator c
     → (IsFinite c → positive_part c ≤ 2 ^ 50 * denominator c → negative_part c ≤ 2 ^ 50 * denominator c → IsCertified c room least t) → IsCertified c room least t
@@ -491,15 +488,11 @@ force_some s L A G sg sx size r x slack t L0 Lm below above side G0 Gm length sl
 
 -- ---- no force
 
-nothing : (c d : ℕ) → 0 < d → c * d ≤ 0 → c ≡ 0
-nothing zero d D h = refl
-nothing (suc c) d D h = absurd (omega arith)
-
 zero_ratio : (g r : Float) → IsNearSigned 0 false g 0 1 → HasSign false (halved r) → 0 < numerator (halved r) → HasSign false (ratio_of g r) × (numerator (ratio_of g r) ≡ 0)
 zero_ratio g r slope h p =
     let d = halved r in
     let q = near_quotient 0 0 false false g d 0 1 (numerator d) (denominator d) (omega arith) p (omega arith) (inl (omega arith)) slope (record { sign = h; near = near_itself 0 (numerator d) (denominator d) }) in
-    (q.sign, nothing (numerator (ratio_of g r)) (numerator d) p (low (numerator (ratio_of g r)) (numerator d) (denominator d) (denominator (ratio_of g r)) q.near.high))
+    (q.sign, no_factor (numerator (ratio_of g r)) (numerator d) p (low (numerator (ratio_of g r)) (numerator d) (denominator d) (denominator (ratio_of g r)) q.near.high))
   where
     low : (qn dn dd qd : ℕ) → qn * (1 * dn) * 2 ^ 53 ≤ 0 * dd * (2 ^ 53 + 1) * qd → qn * dn ≤ 0
     low qn dn dd qd h = omega arith
@@ -508,7 +501,7 @@ zero_product : (s : Bool) (q x : Float) → HasSign false q → numerator q ≡ 
 zero_product s q x h z g =
     let c = near_product 0 0 false s q x (numerator q) (denominator q) (numerator x) (denominator x) (denominator_pos q) (denominator_pos x) (omega arith) (inl (ap (λ (k : ℕ). k * numerator x) z ∙ omega arith))
     (record { sign = h; near = near_itself 0 (numerator q) (denominator q) }) (record { sign = g; near = near_itself 0 (numerator x) (denominator x) }) in
-    (c.sign, nothing (numerator (mul binary64 q x)) (denominator q * denominator x) (mul-pos (denominator_pos q) (denominator_pos x)) (low (numerator (mul binary64 q x)) (numerator q) (numerator x) (denominator q) (denominator x) (denominator (mul binary64 q x)) z c.near.high))
+    (c.sign, no_factor (numerator (mul binary64 q x)) (denominator q * denominator x) (mul-pos (denominator_pos q) (denominator_pos x)) (low (numerator (mul binary64 q x)) (numerator q) (numerator x) (denominator q) (denominator x) (denominator (mul binary64 q x)) z c.near.high))
   where
     low : (cn qn xn qd xd cd : ℕ) → qn ≡ 0 → cn * (qd * xd) * 2 ^ 53 ≤ qn * xn * (2 ^ 53 + 1) * cd → cn * (qd * xd) ≤ 0
     low cn qn xn qd xd cd z h = let a : qn * (xn * ((2 ^ 53 + 1) * cd)) ≡ 0 * (xn * ((2 ^ 53 + 1) * cd)) = ap (λ (k : ℕ). k * (xn * ((2 ^ 53 + 1) * cd))) z in omega arith
@@ -581,9 +574,6 @@ force_none s L A sx size r x slack t L0 Lm below above length slope hx hs cert =
 
 -- ---- the root of a line's square
 
-above_root : (s : ℕ) → s < (root s + 1) * (root s + 1)
-above_root s = lt_of_not-le (λ (k : (root s + 1) * (root s + 1) ≤ s). let h = (root_is s).greatest (root s + 1) k in absurd (omega arith))
-
 some_root : (s : ℕ) → 0 < s → 0 < root s
 some_root s p = let h = (root_is s).greatest 1 (omega arith) in omega arith
 
@@ -608,7 +598,7 @@ pub zero_sure : (s : ℕ) (a : ℤ) (size r x slack : Float) → IsSize (pos 0) 
     → IsZero (float_component_of size r x) × T (lt minus_half (room_of size r slack)) × T (le (least_of size r slack) minus_half)
 zero_sure s a size r x slack exact line =
     let part = signed_part x a line.part_near in
-    let z = zero_force s (root s) part.0 size r x slack (some_root s line.some) (few_root s line.short) (root_is s).square_le (above_root s) line.length_near exact.exact part.1 line.enough.sign in (
+    let z = zero_force s (root s) part.0 size r x slack (some_root s line.some) (few_root s line.short) (root_is s).square_le (below_next s) line.length_near exact.exact part.1 line.enough.sign in (
       z.0,
       subst (λ (y : Float). T (lt minus_half y)) (sym (zero_room (margin_of size r slack) z.1)) half_within,
       subst (λ (y : Float). T (le y minus_half)) (sym (halved_zero (margin_of size r slack) z.1)) half_at_most,
@@ -624,20 +614,20 @@ force_lane s g a size r x slack t exact line order cert = by g a exact line
   where
     by : (g a : ℤ) → IsSize g size → IsLine s a r x slack → IsInteger t (positive_part t) × IsFloor (g *ℤ a) (pos (root s)) (pos (positive_part t) -ℤ pos (3 * 2 ^ 51))
     by (pos zero) (pos n) z l =
-        let d = force_none s (root s) n false size r x slack t (some_root s l.some) (few_root s l.short) (root_is s).square_le (above_root s) l.length_near z.exact l.part_near.sign l.enough.sign cert in
+        let d = force_none s (root s) n false size r x slack t (some_root s l.some) (few_root s l.short) (root_is s).square_le (below_next s) l.length_near z.exact l.part_near.sign l.enough.sign cert in
         (d.0, subst (λ (z : ℤ). IsFloor z (pos (root s)) (pos (positive_part t) -ℤ pos (3 * 2 ^ 51))) (sym (pos-*ℤ-pos zero n)) (floor_of_above (positive_part t) zero n (root s) d.1))
     by (pos zero) (negsuc n) z l =
-        let d = force_none s (root s) (suc n) true size r x slack t (some_root s l.some) (few_root s l.short) (root_is s).square_le (above_root s) l.length_near z.exact l.part_near.sign l.enough.sign cert in
+        let d = force_none s (root s) (suc n) true size r x slack t (some_root s l.some) (few_root s l.short) (root_is s).square_le (below_next s) l.length_near z.exact l.part_near.sign l.enough.sign cert in
         (d.0, subst (λ (z : ℤ). IsFloor z (pos (root s)) (pos (positive_part t) -ℤ pos (3 * 2 ^ 51))) (zero_turned (suc n) ∙ sym (pos-*ℤ-negsuc zero n)) (floor_of_above (positive_part t) zero (suc n) (root s) d.1))
     by (pos (suc m)) (pos n) z l =
-        let d = force_some s (root s) n (suc m) false false size r x slack t (some_root s l.some) (few_root s l.short) (root_is s).square_le (above_root s) l.side (omega arith) z.small l.length_near z.exact l.part_near l.enough order cert in
+        let d = force_some s (root s) n (suc m) false false size r x slack t (some_root s l.some) (few_root s l.short) (root_is s).square_le (below_next s) l.side (omega arith) z.small l.length_near z.exact l.part_near l.enough order cert in
         (d.0, subst (λ (z : ℤ). IsFloor z (pos (root s)) (pos (positive_part t) -ℤ pos (3 * 2 ^ 51))) (sym (pos-*ℤ-pos (suc m) n)) (floor_of_above (positive_part t) (suc m) n (root s) d.1))
     by (pos (suc m)) (negsuc n) z l =
-        let d = force_some s (root s) (suc n) (suc m) false true size r x slack t (some_root s l.some) (few_root s l.short) (root_is s).square_le (above_root s) l.side (omega arith) z.small l.length_near z.exact l.part_near l.enough order cert in
+        let d = force_some s (root s) (suc n) (suc m) false true size r x slack t (some_root s l.some) (few_root s l.short) (root_is s).square_le (below_next s) l.side (omega arith) z.small l.length_near z.exact l.part_near l.enough order cert in
         (d.0, subst (λ (z : ℤ). IsFloor z (pos (root s)) (pos (positive_part t) -ℤ pos (3 * 2 ^ 51))) (sym (pos-*ℤ-negsuc (suc m) n)) (floor_of_below (positive_part t) (suc m) (suc n) (root s) d.1))
     by (negsuc m) (pos n) z l =
-        let d = force_some s (root s) n (suc m) true false size r x slack t (some_root s l.some) (few_root s l.short) (root_is s).square_le (above_root s) l.side (omega arith) z.small l.length_near z.exact l.part_near l.enough order cert in
+        let d = force_some s (root s) n (suc m) true false size r x slack t (some_root s l.some) (few_root s l.short) (root_is s).square_le (below_next s) l.side (omega arith) z.small l.length_near z.exact l.part_near l.enough order cert in
         (d.0, subst (λ (z : ℤ). IsFloor z (pos (root s)) (pos (positive_part t) -ℤ pos (3 * 2 ^ 51))) (sym (negsuc-*ℤ-pos m n)) (floor_of_below (positive_part t) (suc m) n (root s) d.1))
     by (negsuc m) (negsuc n) z l =
-        let d = force_some s (root s) (suc n) (suc m) true true size r x slack t (some_root s l.some) (few_root s l.short) (root_is s).square_le (above_root s) l.side (omega arith) z.small l.length_near z.exact l.part_near l.enough order cert in
+        let d = force_some s (root s) (suc n) (suc m) true true size r x slack t (some_root s l.some) (few_root s l.short) (root_is s).square_le (below_next s) l.side (omega arith) z.small l.length_near z.exact l.part_near l.enough order cert in
         (d.0, subst (λ (z : ℤ). IsFloor z (pos (root s)) (pos (positive_part t) -ℤ pos (3 * 2 ^ 51))) (sym (negsuc-*ℤ-negsuc m n)) (floor_of_above (positive_part t) (suc m) (suc n) (root s) d.1))

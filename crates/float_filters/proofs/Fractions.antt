@@ -1,8 +1,21 @@
 -- Laws of fractions that are near other fractions.
-use Rattle.std.proofs.Common.{◌≡◌, ℕ, ◌+◌, ◌-◌, ◌*◌, ◌^◌, ◌<◌, ◌≤◌, ◌⊎◌, ap, subst, arith}
-use Rattle.std.proofs.lemmas.Nat.{mul-le, pow-add, mul-pow}
+use Rattle.std.proofs.Common.{◌≡◌, ℕ, zero, suc, refl, ◌+◌, ◌-◌, ◌*◌, ◌^◌, ◌<◌, ◌≤◌, ◌⊎◌, ap, subst, arith}
+use Rattle.std.proofs.lemmas.Nat.{mul-le, pow-add, pow_pos, mul-pow}
 use Rattle.std.proofs.Math.Nat.{mul-le-mul_right, le_of_mul-le-mul_right, one-le-pow, pow-le-pow_left}
-use Rattle.float_filters.specs.Near.{IsFractionNear}
+use lib.Ieee.{Float, nan, inf, fin}
+use lib.Ieee.Fits.{down_pos}
+use Rattle.float_filters.specs.Near.{denominator, IsFractionNear}
+
+-- denominators are positive
+pub denominator_pos : (x : Float) → 0 < denominator x
+denominator_pos nan = pow_pos 0
+denominator_pos (inf s) = pow_pos 0
+denominator_pos (fin s m e) = down_pos e
+
+-- if a product with a positive number is 0, the other factor is
+pub no_factor : (n m : ℕ) → 0 < m → n * m ≤ 0 → n ≡ 0
+no_factor zero m M h = refl
+no_factor (suc n) m M h = absurd (omega arith)
 
 -- ---- sizes
 

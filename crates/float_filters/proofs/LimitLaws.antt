@@ -7,10 +7,9 @@ use Rattle.std.proofs.lemmas.Bool.{cases_Bool}
 use Rattle.std.specs.Float.Ieee.{Float, binary64, nan, inf, fin, lt, mul, of_bits}
 use borrow.Author.Tests.{ltb-true, lt-ltb, le-ltb}
 use Rattle.float_filters.specs.Near.{IsFractionNear, IsNear, HasSign, numerator, denominator}
-use Rattle.float_filters.proofs.Fractions.{IsZeroOrModerate}
+use Rattle.float_filters.proofs.Fractions.{denominator_pos, IsZeroOrModerate}
 use Rattle.float_filters.specs.Limits.{IsAround}
 use Rattle.float_filters.specs.declared.limits.FloatLimit.{FloatLimit}
-use Rattle.float_filters.proofs.Rounding.{denominator_positive}
 use Rattle.float_filters.proofs.FloatLaws.{near_product}
 
 -- of two floats that aren't negative the one with the lesser fraction is less
@@ -85,8 +84,8 @@ pub verdict : (s limit : ℕ) (ends : FloatLimit) (x : Float) → IsAround limit
     → IsTrue (not (beq (lt x ends.low) (lt ends.high x))) → lt x ends.low ≡ nat_lt s limit
 verdict s limit ends x around near sure =
     elim (cases_Bool (lt x ends.low)) [
-      | inl is ↦ is ∙ sym (lt-ltb s limit (below_limit s limit _ _ _ _ (denominator_positive x) (denominator_positive ends.low) near.near around.low.near (less_values x ends.low near.sign around.low.sign is)))
+      | inl is ↦ is ∙ sym (lt-ltb s limit (below_limit s limit _ _ _ _ (denominator_pos x) (denominator_pos ends.low) near.near around.low.near (less_values x ends.low near.sign around.low.sign is)))
       | inr not ↦
           let over : lt ends.high x ≡ true = second_is_true _ _ not sure in
-          not ∙ sym (le-ltb s limit (omega (arith, above_limit s limit _ _ _ _ (denominator_positive x) (denominator_positive ends.high) near.near around.high.near (less_values ends.high x around.high.sign near.sign over))))
+          not ∙ sym (le-ltb s limit (omega (arith, above_limit s limit _ _ _ _ (denominator_pos x) (denominator_pos ends.high) near.near around.high.near (less_values ends.high x around.high.sign near.sign over))))
     ]

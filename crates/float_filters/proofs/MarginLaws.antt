@@ -3,7 +3,7 @@ use Rattle.std.proofs.Common.{◌≡◌, ℕ, suc, ◌+◌, ◌-◌, ◌*◌, �
 use lib.Ieee.{Float, binary64, add, le, lt, mul, sub, fits, of_bits}
 use lib.Ieee.Fits.{sub-fits}
 use Rattle.fixed.specs.Roots.{root}
-use Rattle.fixed.proofs.RootLemmas.{root_is}
+use Rattle.fixed.proofs.RootLemmas.{below_next, le_of_squares, root_is}
 use Rattle.float_filters.specs.Near.{denominator, numerator, IsFractionNear, IsNear, IsNearRoot}
 use Rattle.float_filters.specs.Floors.{positive_part, negative_part, IsFinite, half, halved, IsDifference, IsInteger, IsCertified}
 use Rattle.float_filters.specs.Forces.{IsSlack}
@@ -11,11 +11,10 @@ use Rattle.float_filters.specs.DistanceFloors.{IsFloorOfRoot}
 use Rattle.std.proofs.lemmas.Int.{ints}
 use Rattle.float_filters.proofs.FloorLaws.{half_is}
 use Rattle.float_filters.proofs.Differences.{adds, same_rounded, whole_exact}
-use Rattle.float_filters.proofs.Fractions.{IsModerate, near_itself, near_grows}
+use Rattle.float_filters.proofs.Fractions.{denominator_pos, IsModerate, near_itself, near_grows}
 use Rattle.float_filters.proofs.FloatLaws.{near_product, near_sum}
-use Rattle.float_filters.proofs.RootLaws.{square_le}
 use Rattle.float_filters.proofs.DistanceLaws.{floor_decided, margin_of_root}
-use Rattle.float_filters.proofs.Comparisons.{denominator_pos, le_value}
+use Rattle.float_filters.proofs.Comparisons.{le_value}
 use Rattle.float_filters.proofs.ErrorLaws.{not_negative, signed_finite}
 use Rattle.float_filters.proofs.ForceBounds.{root_high, root_low}
 use Rattle.float_filters.proofs.ForceLaws.{bounds_are, small_margin, within}
@@ -61,9 +60,6 @@ reach_high fn fd L m h =
 few : (s : ℕ) → s < 2 ^ 128 → root s ≤ 2 ^ 64
 few s p = le_of_suc-le-suc (lt_of_not-le (λ (k : suc (2 ^ 64) ≤ root s). let h = mul-le-mul k k in let e = (root_is s).square_le in absurd (omega arith)))
 
-above : (s : ℕ) → s < (root s + 1) * (root s + 1)
-above s = lt_of_not-le (λ (k : (root s + 1) * (root s + 1) ≤ s). let h = (root_is s).greatest (root s + 1) k in absurd (omega arith))
-
 -- 3/4 and 2^-49 of a float near the root of a limit is a slack for each square up to the limit
 pub slack_is : (limit s : ℕ) (f : Float) → s ≤ limit → 0 < limit → limit < 2 ^ 128 → IsNearRoot 5 f limit 1 → IsSlack (root s) (add binary64 (of_bits binary64 4604930618986332160) (mul binary64 f (of_bits binary64 4386506037058863104)))
 slack_is limit s f le some most near =
@@ -73,7 +69,7 @@ slack_is limit s f le some most near =
     let FD = denominator_pos f in
     let wider : IsFractionNear 7 (numerator f * numerator f) (denominator f * denominator f) limit 1 = near_grows 5 7 _ _ limit 1 (mul-pos FD FD) (omega arith) near.near in
     let below = root_low (numerator f) (denominator f) limit (root s) wider (smaller (root s) s limit (root_is s).square_le le) in
-    let most' = reach_high (numerator f) (denominator f) (root limit) (few limit most) (root_high (numerator f) (denominator f) limit (root limit) wider (above limit)) in
+    let most' = reach_high (numerator f) (denominator f) (root limit) (few limit most) (root_high (numerator f) (denominator f) limit (root limit) wider (below_next limit)) in
     let low = root_low (numerator f) (denominator f) limit (root limit) wider (root_is limit).square_le in
     let L0 : 0 < root limit = (root_is limit).greatest 1 (omega arith) in
     let product = near_product 0 0 false false f c (numerator f) (denominator f) 1 (2 ^ 49) FD (omega arith) (omega arith) (inr (moderate (numerator f) (denominator f) (root limit) L0 low most'))
@@ -131,7 +127,7 @@ margin_few : (mn md limit c : ℕ) → 0 < c → limit ≤ 2 ^ 300 → mn * mn *
 margin_few mn md limit c C l h =
     let one : 1 * (mn * mn) ≤ c * (mn * mn) = mul-le-mul_right (mn * mn) C in
     let a = mul-le-mul_right ((2 ^ 53 + 1) ^ 11 * (md * md)) l in
-    square_le mn (2 ^ 200 * md) (omega arith)
+    le_of_squares mn (2 ^ 200 * md) (omega arith)
 
 -- The float p is near the root of s / u^2, and the margin m near 2^-49 of the root of a limit / u^2. If t is a certified
 -- floor of p for this margin, and not 0, then it is the floor of the root.

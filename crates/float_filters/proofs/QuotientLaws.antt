@@ -15,15 +15,17 @@ use Rattle.fixed.specs.Arithmetic.{floor_over, number_or_overflow, one, quotient
 use Rattle.fixed.specs.Rounding.{IsFloor}
 use Rattle.fixed.proofs.FloorLemmas.{floor_unique}
 use Rattle.float_filters.specs.Near.{denominator, numerator, HasSign, IsNear, IsNearSigned}
-use Rattle.float_filters.specs.Floors.{positive_part, negative_part, IsFinite, IsDifference, IsInteger, IsLess, lane, middle}
+use Rattle.float_filters.specs.Floors.{positive_part, negative_part, IsFinite, IsDifference, IsInteger, lane, middle}
 use Rattle.float_filters.specs.Forces.{IsSize}
 use Rattle.float_filters.specs.Quotients.{IsStrictFloor, IsWhole, scaled_quotient, shift_of, unit}
+use Rattle.float_filters.proofs.Fractions.{denominator_pos}
 use Rattle.float_filters.proofs.Rounding.{exact_near}
 use Rattle.float_filters.proofs.FloatLaws.{product_is, quotient_is}
 use Rattle.float_filters.proofs.Differences.{IsRounded, IsSigned, rounded_le, adds, from_value, same_rounded, subtracts, whole_exact}
 use Rattle.float_filters.proofs.RestLaws.{short_exact}
-use Rattle.float_filters.proofs.Comparisons.{denominator_pos, finite_between, itself, large_whole, le_value, less_value}
+use Rattle.float_filters.proofs.Comparisons.{finite_between, itself, large_whole, le_value, less_value}
 use Rattle.float_filters.proofs.FloorLaws.{half_is, half_value, lowered_value, middle_is}
+use Rattle.float_filters.proofs.ErrorLaws.{less_finite, signed_finite}
 use Rattle.float_filters.proofs.ForceLaws.{floor_of_above, floor_of_below}
 
 -- ---- what a strict comparison says of the exact number
@@ -33,11 +35,6 @@ greater_value : (a b c : ℕ) (x y : Float) → 0 < c → IsRounded x a b c → 
 greater_value a b c x y C r p f l =
     lt_of_not-le (λ (g : a * denominator y + negative_part y * c ≤ positive_part y * c + b * denominator y).
     order.lt_irrefl y (order.lt_of_lt_of_le y x y l (rounded_le x y a b c _ _ (denominator y) C (denominator_pos y) r (itself y p f) g)))
-
-less_finite : (a b c : ℕ) (y : Float) → IsFinite y → IsLess a b c y → a * denominator y + negative_part y * c < positive_part y * c + b * denominator y
-less_finite a b c nan f l = absurd f
-less_finite a b c (inf s) f l = absurd f
-less_finite a b c (fin s m e) f l = l
 
 -- the same with the float's value, an integer n - m
 above_integer : (a b c p q d n m : ℕ) → 0 < d → p * 1 + m * d ≡ n * d + q * 1 → p * c + b * d < a * d + q * c → n * c + b < a + m * c
@@ -239,11 +236,6 @@ no_quotient (fin s m k) nan f e q = f
 no_quotient (fin s m k) (inf t) f e q = f
 no_quotient (fin s m k) (fin t zero d) f e q = neither _ _ q
 no_quotient (fin s m k) (fin t (suc n) d) f e q = let u = up_pos d in absurd (omega arith)
-
-signed_finite : (s : Bool) (x : Float) → HasSign s x → IsFinite x
-signed_finite s nan h = h
-signed_finite s (inf t) h = h
-signed_finite s (fin t m e) h = tt
 
 -- ---- one lane
 

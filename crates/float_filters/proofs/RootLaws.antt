@@ -6,9 +6,10 @@ use Rattle.std.proofs.Math.Nat.{mul-le-mul_right, le_of_mul-le-mul_right, mul-po
 use Rattle.std.specs.Float.Ieee.{Float, binary64, nan, inf, fin, up, round, mul, sqrt, size, root_below, root_twice}
 use lib.Ieee.Fits.{up_pos}
 use lib.Ieee.Root.{Root, whole_part}
+use Rattle.fixed.proofs.RootLemmas.{le_of_squares}
 use Rattle.float_filters.specs.Near.{IsFractionNear, IsNear, IsNearRoot, HasSign, numerator, denominator}
-use Rattle.float_filters.proofs.Fractions.{IsModerate, IsZeroOrModerate, near_after, near_times}
-use Rattle.float_filters.proofs.Rounding.{IsNext, denominator_positive}
+use Rattle.float_filters.proofs.Fractions.{denominator_pos, IsModerate, IsZeroOrModerate, near_after, near_times}
+use Rattle.float_filters.proofs.Rounding.{IsNext}
 use Rattle.float_filters.proofs.FloatLaws.{moderate_of_near, moderate_grows, product_is, round_near, round_next, some_of_near}
 
 -- ---- the integer root that is rounded
@@ -97,10 +98,6 @@ next_square n d t z a c Z h g = record { low = next_low n d t z a c Z h.low g.lo
 
 -- ---- roots of floats
 
-some_product : (m u : ℕ) → 0 < m * u → 0 < m
-some_product zero u p = absurd (omega arith)
-some_product (suc m) u p = omega arith
-
 root_is : (x : Float) → HasSign false x → 0 < numerator x
     → sqrt binary64 x ≡ round binary64 false (root_twice (numerator x * 2 ^ 4542 / denominator x)) (2 ^ 2272)
 unfolding sqrt
@@ -118,16 +115,8 @@ root_of_zero (fin true m e) h p = absurd (true≢false h)
 root_of_zero (fin false zero e) h p = refl
 root_of_zero (fin false (suc m) e) h p = absurd (omega (arith, mul-pos {m = suc m} {n = up e} (omega arith) (up_pos e)))
 
--- a number whose square isn't greater isn't greater
-pub square_le : (p q : ℕ) → p * p ≤ q * q → p ≤ q
-square_le p q h =
-    elim (cases_lt q p) [
-      | inl l ↦ absurd (omega (arith, mul-le (q + 1) (q + 1) p p (omega arith) (omega arith)))
-      | inr l ↦ l
-    ]
-
 root_within : (b n d : ℕ) → d * d ≤ n * n * 2 ^ b → d ≤ n * 2 ^ b
-root_within b n d h = square_le d (n * 2 ^ b) (more (2 ^ b) (pow_pos b) h)
+root_within b n d h = le_of_squares d (n * 2 ^ b) (more (2 ^ b) (pow_pos b) h)
   where
     more : (t : ℕ) → 0 < t → d * d ≤ n * n * t → d * d ≤ n * t * (n * t)
     more t T h = omega (arith, mul-le (n * n * t) 1 (n * n * t) t (omega arith) T)
@@ -180,7 +169,7 @@ root_near_zero n d e = rw e (record { sign = refl; near = record { low = omega a
 root_near_value : (x : Float) → HasSign false x → IsZeroOrModerate 300 (numerator x) (denominator x)
     → IsNearRoot 2 (sqrt binary64 x) (numerator x) (denominator x)
 root_near_value x h (inl e) = rw (root_of_zero x h e) (root_near_zero (numerator x) (denominator x) e)
-root_near_value x h (inr g) = rw (root_is x h (some (numerator x) (denominator x) g.low (denominator_positive x))) (root_of_fraction (numerator x) (denominator x) (denominator_positive x) g)
+root_near_value x h (inr g) = rw (root_is x h (some (numerator x) (denominator x) g.low (denominator_pos x))) (root_of_fraction (numerator x) (denominator x) (denominator_pos x) g)
   where
     some : (n d : ℕ) → d ≤ n * 2 ^ 300 → 0 < d → 0 < n
     some n d g p = omega arith
@@ -189,7 +178,7 @@ root_near_value x h (inr g) = rw (root_is x h (some (numerator x) (denominator x
 pub near_root : (k : ℕ) (x : Float) (a c : ℕ) → 0 < c → k ≤ 100 → IsZeroOrModerate 200 a c → IsNear k x a c
     → IsNearRoot (k + 2) (sqrt binary64 x) a c
 near_root k x a c C h m f =
-    root_after k 2 _ _ (sqrt binary64 x) a c (denominator_positive x) f.near (root_near_value x f.sign (moderate_of_near 200 k _ _ a c C h m f.near))
+    root_after k 2 _ _ (sqrt binary64 x) a c (denominator_pos x) f.near (root_near_value x f.sign (moderate_of_near 200 k _ _ a c C h m f.near))
 
 -- The float product of a float near a root and one near a number is near the product. The squares have the factors of
 -- the first, twice those of the second, and two more.
@@ -203,7 +192,7 @@ near_root_product k j x y a c b e C E h m f g =
     let N = numerator x * numerator y in
     let D = denominator x * denominator y in
     let near : IsFractionNear (k + (j + j)) (N * N) (D * D) (a * (b * b)) (c * (e * e)) = rw (mul-mul-mul_comm (numerator x) (numerator y) (numerator x) (numerator y), mul-mul-mul_comm (denominator x) (denominator y) (denominator x) (denominator y)) whole in
-    let positive = mul-pos (denominator_positive x) (denominator_positive y) in
+    let positive = mul-pos (denominator_pos x) (denominator_pos y) in
     let range = moderate_grows 300 400 (N * N) (D * D) (omega arith) (moderate_of_near 200 (k + (j + j)) (N * N) (D * D) _ _ place h m near) in
     rw (product_is false false x y f.sign g.sign)
     (root_after (k + (j + j)) 2 (N * N) (D * D) _ _ _ (mul-pos positive positive) near (rounded_square N D positive range))

@@ -6,14 +6,14 @@ use Rattle.std.proofs.Math.Nat.{lt_of_not-le, not-le_of_lt, lt_of_lt_of_le, mul-
 use Rattle.std.specs.Float.Ieee.{Float, binary64, nan, inf, fin, nearest, round, size}
 use lib.Ieee.Digits.{size-lt, size_reaches}
 use lib.Ieee.Exact.{HasValue, units_val}
-use lib.Ieee.Fits.{round_is, down_pos}
+use lib.Ieee.Fits.{round_is}
 use lib.Ieee.Nearest.{closest}
 use Prim.Native.Nat.{compare, Ordering}
 use lib.Dec.{is_le, compare_is_eq, eqb, leb→le, nleb→lt, eqb→eq, eqb_refl}
 use lib.Arith.{lt_of_le-ne}
 use lib.Ieee.Order.{drop, kept}
 use Rattle.float_filters.specs.Near.{IsFractionNear, IsNearSigned, HasSign, numerator, denominator}
-use Rattle.float_filters.proofs.Fractions.{near_itself, near_same}
+use Rattle.float_filters.proofs.Fractions.{denominator_pos, near_itself, near_same}
 
 -- ---- the nearest integer
 
@@ -124,11 +124,6 @@ module _ (n d : ℕ) (positive : 0 < d) (large : 2 ^ 52 * d ≤ n) where
 
 -- ---- floats by the fractions that they equal
 
-pub denominator_positive : (x : Float) → 0 < denominator x
-denominator_positive nan = pow_pos 0
-denominator_positive (inf s) = pow_pos 0
-denominator_positive (fin s m e) = down_pos e
-
 -- a float's sign, and its magnitude as a fraction
 pub value_parts : (x : Float) (s : Bool) (a c : ℕ) → HasValue x s a c → HasSign s x × (numerator x * c ≡ a * denominator x)
 value_parts nan s a c h = absurd h
@@ -141,7 +136,7 @@ exact_near x s a c h =
     let parts = value_parts x s a c h in
     let n = numerator x in
     let d = denominator x in
-    record { sign = parts.0; near = near_same 0 n d n d a c (denominator_positive x) parts.1 (near_itself 0 n d) }
+    record { sign = parts.0; near = near_same 0 n d n d a c (denominator_pos x) parts.1 (near_itself 0 n d) }
 
 -- ---- one rounding
 

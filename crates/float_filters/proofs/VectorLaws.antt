@@ -174,13 +174,6 @@ number_rest u (fin s m e) y h = finite s m e
 pub number_lane : (u t y w e room : Float) → w ≡ sub binary64 t y → e ≡ sub binary64 u w → T (lt e room) → T (not (is_nan t))
 number_lane u t y w e room a b l = number_rest u t y (le_left _ _ (le_of_lt _ _ (subst (λ (z : Float). T (lt z room)) (b ∙ ap (sub binary64 u) a) l)))
 
--- a finite float is a number
-pub finite_number : (x : Float) → IsFinite x → T (not (is_nan x))
-unfolding is_nan
-finite_number nan t = t
-finite_number (lib.Ieee.inf s) t = absurd t
-finite_number (lib.Ieee.fin s m e) t = tt
-
 -- the bits of four integers between 2^52 and 2^53, counted from those of 3 * 2^51
 mapped : (t : List Float) (k : ℕ) → k < length t → get_or (map (to_bits binary64) t) k 0 ≡ to_bits binary64 (lane t k)
 mapped [] k l = absurd (omega arith)
