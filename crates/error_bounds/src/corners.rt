@@ -3,7 +3,7 @@
 ghost use Rattle.std.specs.Prelude.{◌≡◌, ◌^◌, ◌-◌, ◌≤◌, ◌≤ℤ◌, ◌<ℤ◌, ◌*ℤ◌, pos, false, unsigned_abs};
 ghost use Rattle.std.specs.Int.{int_max, int_min};
 ghost use Rattle.fixed.specs.Arithmetic.{floor_of};
-ghost use Rattle.interval_domain.specs.Ranges.{IsWithin, has_zero, quotients, scaled, times, up_over};
+ghost use Rattle.interval_domain.specs.Ranges.{IsWithin, has_zero, quotients, range, scaled, times};
 ghost use Rattle.interval_domain.specs.Views.{range_of};
 
 use fixed::floor_div;
@@ -47,31 +47,18 @@ fn greatest_product(x: Ends, n: i128) -> i128
     }
 }
 
-// All `x y`, for numbers `x` from 0.
+// From the least product of `x` with `least` to its greatest one with `greatest`.
 //
-// The result must fit.
-fn products_from_zero(x: Ends, y: Ends) -> Ends
-    requires sign { pos 0 ≤ℤ x.low }
-    requires fits { IsWithin (2 ^ 127 - 1) (times (range_of x) (range_of y)) }
-    ensures { range_of result ≡ times (range_of x) (range_of y) }
+// The products must fit, and be in this order.
+fn products_with(x: Ends, least: i128, greatest: i128) -> Ends
+    requires least_fits { IsWithin (2 ^ 127 - 1) (scaled (range_of x) least) }
+    requires greatest_fits { IsWithin (2 ^ 127 - 1) (scaled (range_of x) greatest) }
+    requires ordered { int_min (x.low *ℤ least) (x.high *ℤ least) ≤ℤ int_max (x.low *ℤ greatest) (x.high *ℤ greatest) }
+    ensures { range_of result ≡ range (int_min (x.low *ℤ least) (x.high *ℤ least)) (int_max (x.low *ℤ greatest) (x.high *ℤ greatest)) }
 {
     Ends {
-        low: least_product(x, y.low),
-        high: greatest_product(x, y.high),
-    }
-}
-
-// All `x y`, for numbers `x` up to 0.
-//
-// The result must fit.
-fn products_to_zero(x: Ends, y: Ends) -> Ends
-    requires sign { x.high ≤ℤ pos 0 }
-    requires fits { IsWithin (2 ^ 127 - 1) (times (range_of x) (range_of y)) }
-    ensures { range_of result ≡ times (range_of x) (range_of y) }
-{
-    Ends {
-        low: least_product(x, y.high),
-        high: greatest_product(x, y.low),
+        low: least_product(x, least),
+        high: greatest_product(x, greatest),
     }
 }
 
@@ -83,9 +70,9 @@ pub(crate) fn products(x: Ends, y: Ends) -> Ends
     ensures { range_of result ≡ times (range_of x) (range_of y) }
 {
     if x.low >= 0 {
-        products_from_zero(x, y)
+        products_with(x, y.low, y.high)
     } else if x.high <= 0 {
-        products_to_zero(x, y)
+        products_with(x, y.high, y.low)
     } else {
         interval_domain::times(x, y)
     }
