@@ -37,7 +37,7 @@ pub fn zero<A: Allocator>() -> Slope<A>
     }
 }
 
-/// The derivative of a tree that depends on the distance.
+/// Marks a tree as the derivative of one that depends on the distance.
 pub fn varying<A: Allocator>(tree: Expr<A>) -> Slope<A>
     ensures tree { tree_of result.tree ≡ tree_of tree }
     ensures free { result.free ≡ false }

@@ -77,6 +77,8 @@ fn slope_of<A: Allocator + Copy>(
 ) -> Result<Slope<A>, Failure<ExprFault<A>>>
     ensures value { Gives (with_slope energy.now) refusal_of result (energy_from (bits_of frac) (trees_of energy.now)) }
     ensures compiled { IfOk result (λ s. IsCompiled (bits_of frac) energy.now.parameters energy.now.globals (with_slope energy.now s)) }
+    ensures parameters { IfOk result (λ s. s.program.parameters ≡ energy.now.parameters) }
+    ensures globals { IfOk result (λ s. s.program.globals ≡ energy.now.globals) }
 {
     let program = derive(alloc, frac, energy)?;
     let code = compile(alloc, frac, &program)?;
@@ -98,6 +100,8 @@ pub fn job_slope<A: Allocator + Copy>(
         (length job.now.globals.items) (energy_view p)) }
     ensures parameters { IfOk result (λ p. p.energy.parameters ≡ length job.now.parameters.items) }
     ensures globals { IfOk result (λ p. p.energy.globals ≡ length job.now.globals.items) }
+    ensures slope_parameters { IfOk result (λ p. p.slope.parameters ≡ length job.now.parameters.items) }
+    ensures slope_globals { IfOk result (λ p. p.slope.globals ≡ length job.now.globals.items) }
 {
     let energy = program(alloc, job)?;
     let slope = slope_of(alloc, job.frac, &energy)?;
