@@ -2,14 +2,13 @@
 use Rattle.std.proofs.Common.{◌≡◌, ℕ, zero, suc, ◌-◌, ◌<◌, false, List, [], ◌∷◌, drop, length, map, get_or, Option, refl, sym, ap, subst, ◌∙◌, arith}
 use Rattle.energy_program.specs.Programs.{Trees}
 use Rattle.error_bounds.specs.Approximations.{Approximation, Outcomes}
-use Rattle.formula_bounds.specs.Entries.{Entry}
+use Rattle.formula_bounds.specs.Entries.{Entry, entry_of_program}
 use Rattle.curves.specs.Slices.{BoundsView, bound_of_all, bounds_of, bounds_view, in_entry, least_bounds, lesser_bound, plain_bounds}
-use Rattle.formula_bounds.specs.Walks.{either_if_there, entries_of_program, outcomes_if_there, outcomes_of_all}
+use Rattle.formula_bounds.specs.Walks.{either_if_there, entries_of_program, or_one, outcomes_if_there, outcomes_of_all}
 use Rattle.curves.specs.declared.slices.Column.{Column}
 use Rattle.curves.specs.declared.slices.Column.TheVariants.{Energy, Slope}
 use Rattle.formula_bounds.specs.Nodes.{formula_of, has_choice}
 use Rattle.formula_bounds.proofs.ChoiceLaws.{single_program}
-use Rattle.formula_bounds.proofs.SingleLaws.{single_entry, some_entries}
 
 -- the outcomes of the entries from an index on
 abbrev pub outcomes_from : Column → List Entry → ℕ → Option Outcomes
@@ -55,30 +54,28 @@ module _ (bits : ℕ) (inputs : List Approximation) (program : Trees) (left : �
   abbrev least : List Entry → BoundsView
   least es = least_bounds plain es
 
-  -- a single walk has the plain bounds
-  pub one_walk : (es : List Entry) (x : Entry) (b : BoundsView) → es ≡ entries_of_program bits inputs program left → length es ≡ 1
-      → x ≡ get_or es 0 x → b ≡ bounds_of x → b ≡ least (entries_of_program bits inputs program left)
-  one_walk [] x b e one ex eb = absurd (omega arith)
-  one_walk (y ∷ z ∷ zs) x b e one ex eb = absurd (omega arith)
-  one_walk (y ∷ []) x b e one ex eb =
-      eb ∙ ap bounds_of (ex ∙ single_entry bits inputs program left y (sym e)) ∙ ap least e
+  abbrev all : List Entry
+  all = entries_of_program bits inputs program left
 
-  -- there is an entry
-  pub some_walk : (es : List Entry) → es ≡ entries_of_program bits inputs program left → 0 < length es
-  some_walk [] e = absurd (some_entries bits inputs program left (sym e))
-  some_walk (x ∷ xs) e = omega arith
+  -- if no walk divided, the bounds are those of the entry of the walk that doesn't divide
+  pub plain_walk : (x : Entry) (es : List Entry) (b : BoundsView) → x ≡ entry_of_program bits inputs program → or_one x es ≡ all
+      → length es < 2 → b ≡ bounds_of x → b ≡ least all
+  plain_walk x [] b ex e few eb = eb ∙ ap bounds_of ex ∙ ap least e
+  plain_walk x (y ∷ []) b ex e few eb = eb ∙ ap bounds_of ex ∙ ap least e
+  plain_walk x (y ∷ z ∷ zs) b ex e few eb = absurd (omega (arith, few))
 
   -- several walks have the lesser bounds
-  pub several_walks : (es : List Entry) (p b : BoundsView) → es ≡ entries_of_program bits inputs program left → (length es ≡ 1 → ⊥) → p ≡ plain
+  pub several_walks : (x : Entry) (es : List Entry) (p b : BoundsView) → x ≡ entry_of_program bits inputs program → or_one x es ≡ all
+      → (length es < 2 → ⊥) → p ≡ bounds_of x
       → b ≡ bounds_view (lesser_bound p.energy (bound_of_all (map (in_entry Energy) es))) (lesser_bound p.slope (bound_of_all (map (in_entry Slope) es)))
-      → b ≡ least (entries_of_program bits inputs program left)
-  several_walks [] p b e one ep eb = absurd (some_entries bits inputs program left (sym e))
-  several_walks (x ∷ []) p b e one ep eb = absurd (one refl)
-  several_walks (x ∷ y ∷ ys) p b e one ep eb =
+      → b ≡ least all
+  several_walks x [] p b ex e several ep eb = absurd (several (omega arith))
+  several_walks x (y ∷ []) p b ex e several ep eb = absurd (several (omega arith))
+  several_walks x (y ∷ z ∷ zs) p b ex e several ep eb =
       eb
       ∙ ap (λ (q : BoundsView).
-      bounds_view (lesser_bound q.energy (bound_of_all (map (in_entry Energy) (x ∷ y ∷ ys))))
-      (lesser_bound q.slope (bound_of_all (map (in_entry Slope) (x ∷ y ∷ ys))))) ep
+      bounds_view (lesser_bound q.energy (bound_of_all (map (in_entry Energy) (y ∷ z ∷ zs))))
+      (lesser_bound q.slope (bound_of_all (map (in_entry Slope) (y ∷ z ∷ zs))))) (ep ∙ ap bounds_of ex)
       ∙ ap least e
 
   -- a formula without choices has the plain bounds

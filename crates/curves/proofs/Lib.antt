@@ -1,4 +1,5 @@
 pub mod SliceLaws
+pub mod JumpLaws
 pub mod LeastLaws
 pub mod PartLaws
 pub mod HalvingLaws

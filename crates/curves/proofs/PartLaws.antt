@@ -1,5 +1,6 @@
 -- Parts of a range while the worst is looked for, and while a range is halved.
-use Rattle.std.proofs.Common.{◌≡◌, ℕ, zero, suc, ◌<◌, ◌≤◌, ◌+◌, pos, ◌+ℤ◌, ◌-ℤ◌, ◌≤ℤ◌, ◌<ℤ◌, Bool, true, false, ◌||◌, List, [], ◌∷◌, ◌++◌, length, take, drop, get_or, slice_set, Option, Some, None, slice_get, refl, sym, subst, ap, ◌∙◌, ◌⊎◌, inl, inr, arith}
+use Rattle.std.proofs.Common.{◌≡◌, ℕ, zero, suc, ◌<◌, ◌≤◌, ◌+◌, ◌/◌, max, pos, ◌+ℤ◌, ◌-ℤ◌, ◌≤ℤ◌, ◌<ℤ◌, Bool, true, false, ◌||◌, List, [], ◌∷◌, ◌++◌, length, take, drop, get_or, slice_set, Option, Some, None, slice_get, refl, sym, subst, ap, ◌∙◌, ◌⊎◌, inl, inr, arith}
+use Rattle.std.proofs.Math.Pow.{shr_mono}
 use Rattle.std.proofs.lemmas.Bool.{both_ways}
 use Rattle.std.proofs.lemmas.Bool.Decides.{nat_tests}
 use Rattle.std.proofs.lemmas.Int.{by_lt_z, ints}
@@ -11,7 +12,7 @@ use Rattle.interval_domain.specs.Ranges.{Range, range}
 use Rattle.interval_domain.specs.Spans.{AreHalves}
 use Rattle.interval_domain.specs.Views.{span_range}
 use Rattle.interval_domain.specs.declared.span.Span.{Span}
-use Rattle.curves.specs.Slices.{AreHalved, AreOfWorst, AreWorstOver, BoundsView, IsNext, IsToHalve, IsWorst, Part, at_ends, bounds_at, bounds_view, greater_bounds, halved_at, in_column, is_worse, middle, part_on, turn_of}
+use Rattle.curves.specs.Slices.{AreHalved, AreOfWorst, AreWorstOver, BoundsView, IsNext, IsToHalve, IsWorst, Part, at_ends, bounds_at, bounds_view, greater_bound, greater_bounds, halved_at, in_column, is_close, is_worse, middle, part_on, turn_of}
 use Rattle.curves.specs.declared.slices.Column.{Column}
 use Rattle.curves.specs.declared.slices.Column.TheVariants.{Energy, Slope}
 
@@ -278,3 +279,57 @@ module _ (bits : ℕ) (program : Trees) (others : List Constant) where
           energy_is = energy.4;
           slope_is = slope.4;
         }
+
+-- ---- ranges that aren't halved
+
+-- a bound that is close to a tried one is close to the greater of that and another
+close_to_greater : (bound x y : Option ℕ) → is_close bound x ≡ true → is_close bound (greater_bound x y) ≡ true
+close_to_greater (Some b) (Some x) (Some y) e =
+    let above : x / 16 ≤ max x y / 16 = shr_mono {a = x} {b = max x y} 4 (omega arith) in
+    let close : b / 17 ≤ x / 16 = grind (arith, nat_tests) in
+    grind (arith, nat_tests)
+close_to_greater (Some b) (Some x) None e = refl
+close_to_greater (Some b) None y e = refl
+close_to_greater None (Some x) y e = absurd (cc)
+close_to_greater None None y e = refl
+
+in_greater : (column : Column) (x y : BoundsView) → in_column column (greater_bounds x y) ≡ greater_bound (in_column column x) (in_column column y)
+in_greater Energy x y = refl
+in_greater Slope x y = refl
+
+or_second : (a b : Bool) → b ≡ true → (a || b) ≡ true
+or_second true b e = refl
+or_second false b e = e
+
+module _ (p : Part) (first last : BoundsView) (close : (column : Column) → is_close (in_column column p.bounds) (in_column column first) ≡ true) where
+  -- a column whose only part has a bound close to the one at the first distance is done
+  done_alone : (column : Column) (parts : List Part) (bound : Option ℕ) (r : Range) → parts ≡ p ∷ [] → AreOfWorst column parts bound r
+      → IsToHalve column parts (greater_bounds first last) None
+  done_alone column parts bound r e w =
+      let only : w.1 ≡ p = alone w.0 w.1 (subst (λ (l : List Part). slice_get l w.0 ≡ Some w.1) e w.2.its) in
+      let closer : is_close (in_column column p.bounds) (in_column column (greater_bounds first last)) ≡ true =
+      rw (in_greater column first last)
+      (close_to_greater (in_column column p.bounds) (in_column column first) (in_column column last) (close column)) in (
+        w.0,
+        w.1,
+        w.2,
+        or_second _ _ (subst (λ (q : Part). is_close (in_column column q.bounds) (in_column column (greater_bounds first last)) ≡ true) (sym only) closer),
+      )
+    where
+      alone : (n : ℕ) (q : Part) → slice_get (p ∷ []) n ≡ Some q → q ≡ p
+      alone zero q e = sym (same_Some p q e)
+      alone (suc n) q e = absurd (none-some q e)
+
+-- bounds over a range whose bounds are close to those at its first distance
+pub done_at_first : (bits : ℕ) (program : Trees) (others : List Constant) (r : Range) (parts seen : List Part) (p : Part) (first : BoundsView)
+    (e s : Option ℕ) (of_energy of_slope : Range) → parts ≡ p ∷ [] → p ≡ part_on bits program others r → first ≡ bounds_at bits program others r.low
+    → ((column : Column) → is_close (in_column column p.bounds) (in_column column first) ≡ true) → seen ≡ parts → AreOfWorst Energy seen e of_energy
+    → AreOfWorst Slope seen s of_slope → AreWorstOver bits program others r (bounds_view e s) of_energy of_slope
+done_at_first bits program others r parts seen p first e s of_energy of_slope alone is tried close same ew sw =
+    let last = bounds_at bits program others r.high in
+    let are = started bits program others r parts p (greater_bounds first last) alone is (ap (λ b. greater_bounds b last) tried) in
+    let energy = subst (λ (l : List Part). AreOfWorst Energy l e of_energy) same ew in
+    let slope = subst (λ (l : List Part). AreOfWorst Slope l s of_slope) same sw in
+    worst_over bits program others r 0 parts seen (greater_bounds first last) e s of_energy of_slope same are
+    (inl (IsNext.other (done_alone p first last close Energy parts e of_energy alone energy) (done_alone p first last close Slope parts s of_slope alone slope)))
+    ew sw

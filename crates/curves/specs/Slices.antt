@@ -110,7 +110,7 @@ bounds_on bits program others r = bounds_by bits program (inputs_on others r) (i
 
 -- ---- halving
 
--- a part of a range of distances, and the bounds of one walk over it
+-- a part of a range of distances, and the bounds on it
 pub record Part : Type 0 where
   pub range : Range
   pub bounds : BoundsView
@@ -168,6 +168,19 @@ AreOfWorst column parts bound r = (number : ℕ) × (worst : Part) × IsWorst co
     × (bound ≡ in_column column worst.bounds) × (r ≡ worst.range)
 
 -- ---- jumps
+
+-- of each column, whether it has a property
+pub record FlagsView : Type 0 where
+  pub energy : Bool
+  pub slope : Bool
+
+abbrev pub flags : (energy slope : Bool) → FlagsView
+flags energy slope = record { energy = energy; slope = slope }
+
+-- whether a column has the property
+abbrev pub flag_of : Column → FlagsView → Bool
+flag_of Energy f = f.energy
+flag_of Slope f = f.slope
 
 -- whether a bound is above four times the greatest bound beside it
 abbrev pub is_local : (bound beside : Option ℕ) → Bool

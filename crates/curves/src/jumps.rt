@@ -1,13 +1,15 @@
 //! Whether a large bound is a jump: whether it is far above the bounds at distances nearby.
-ghost use Rattle.std.specs.Prelude.{◌≡◌, ◌+ℤ◌, ◌-ℤ◌, ◌≤ℤ◌, pos, IfOk};
+ghost use Rattle.std.specs.Prelude.{◌≡◌, ◌&&◌, ◌||◌, ◌+ℤ◌, ◌-ℤ◌, ◌≤ℤ◌, false, pos, IfOk, IsTrue};
 ghost use Rattle.std.specs.Int.{int_max, int_min};
 ghost use Rattle.energy_program.specs.Programs.{Trees};
 ghost use Rattle.fixed.specs.Fractions.{bits_of};
 ghost use Rattle.interval_domain.specs.Views.{span_range};
 ghost use Rattle.formula_bounds.specs.Nodes.{formula_of};
 ghost use Rattle.curves.specs.Slices as slices;
+ghost use Rattle.curves.specs.Slices.{flag_of, in_column};
+ghost use Rattle.curves.specs.declared.slices.Column.{Column};
 
-use crate::slices::{Column, PairFormula};
+use crate::slices::{Bounds, Flags, PairFormula};
 use fixed::Fx;
 use interval_domain::Span;
 use std::alloc::{AllocError, Allocator};
@@ -52,8 +54,8 @@ fn down_to(low: Fx, at: Fx, less: u32) -> Fx
 }
 
 // The first 16 distances of a range.
-fn front_of(range: Span) -> Span
-    ensures { span_range result ≡ slices.front_of (span_range range) }
+fn front_of(range: &Span) -> Span
+    ensures { span_range result ≡ slices.front_of (span_range range.now) }
 {
     Span {
         lo: range.lo,
@@ -62,8 +64,8 @@ fn front_of(range: Span) -> Span
 }
 
 // The last 16 distances of a range.
-fn back_of(range: Span) -> Span
-    ensures { span_range result ≡ slices.back_of (span_range range) }
+fn back_of(range: &Span) -> Span
+    ensures { span_range result ≡ slices.back_of (span_range range.now) }
 {
     Span {
         lo: down_to(range.lo, range.hi, DISTANCES - 1),
@@ -71,33 +73,71 @@ fn back_of(range: Span) -> Span
     }
 }
 
+// Of each column, whether a bound is above four times the bound beside it.
+fn are_local(bounds: &Bounds, beside: &Bounds) -> Flags
+    ensures { (column : Column) → flag_of column result ≡ slices.is_local (in_column column bounds.now) (in_column column beside.now) }
+{
+    Flags {
+        energy: is_local(bounds.energy, beside.energy),
+        slope: is_local(bounds.slope, beside.slope),
+    }
+}
+
+// Whether no column has the property.
+fn is_none(flags: &Flags) -> bool
+    ensures { IsTrue result → (column : Column) → flag_of column flags.now ≡ false }
+{
+    !flags.energy && !flags.slope
+}
+
+// Of each column, whether it has both properties.
+fn both(first: &Flags, second: &Flags) -> Flags
+    ensures { (column : Column) → flag_of column result ≡ (flag_of column first.now && flag_of column second.now) }
+{
+    Flags {
+        energy: first.energy && second.energy,
+        slope: first.slope && second.slope,
+    }
+}
+
+// Of each column, whether it has one of these properties.
+fn either(first: &Flags, second: &Flags) -> Flags
+    ensures { (column : Column) → flag_of column result ≡ (flag_of column first.now || flag_of column second.now) }
+{
+    Flags {
+        energy: first.energy || second.energy,
+        slope: first.slope || second.slope,
+    }
+}
+
 impl<'a, A: Allocator + Copy> PairFormula<'a, A> {
-    // Whether a column's bound on a range is above four times the greatest of the bounds beside it.
-    fn is_local_on(&self, domain: Span, column: Column, range: Span) -> Result<bool, AllocError>
-        ensures { (program : Trees) → self.now.formula.now ≡ formula_of program
-            → IfOk result (λ t. t ≡ slices.is_local_on (bits_of self.now.frac) program self.now.others.now (span_range domain) column
+    // Of each column, whether its bound on a range is above four times the greatest of the bounds beside it. Most bounds
+    // aren't above four times the bound at the distance below, and then the bound at the distance above isn't needed.
+    fn are_local_on(&self, domain: &Span, range: Span) -> Result<Flags, AllocError>
+        ensures { (program : Trees) → self.now.formula.now ≡ formula_of program → IfOk result (λ f. (column : Column)
+            → flag_of column f ≡ slices.is_local_on (bits_of self.now.frac) program self.now.others.now (span_range domain.now) column
             (span_range range)) }
     {
         let below = down_to(domain.lo, range.lo, BESIDE);
         let above = up_to(domain.hi, range.hi, BESIDE);
         let bounds = self.bounds_on(range)?;
-        let beside = self.bounds_at_both(below, above)?;
-        Ok(is_local(bounds.of(column), beside.of(column)))
+        let below = self.bounds_at(below)?;
+        let local = are_local(&bounds, &below);
+        if is_none(&local) {
+            return Ok(local);
+        }
+        let above = self.bounds_at(above)?;
+        Ok(both(&local, &are_local(&bounds, &above)))
     }
 
-    /// Whether a column jumps in its worst part, which is this range.
-    pub(crate) fn jumps_over(
-        &self,
-        domain: Span,
-        column: Column,
-        range: Span,
-    ) -> Result<bool, AllocError>
-        ensures { (program : Trees) → self.now.formula.now ≡ formula_of program
-            → IfOk result (λ t. t ≡ slices.jumps_over (bits_of self.now.frac) program self.now.others.now (span_range domain) column
-            (span_range range)) }
+    /// Of each column, whether it jumps in this range, if this is its worst part.
+    pub(crate) fn jumps_over(&self, domain: &Span, range: &Span) -> Result<Flags, AllocError>
+        ensures { (program : Trees) → self.now.formula.now ≡ formula_of program → IfOk result (λ f. (column : Column)
+            → flag_of column f ≡ slices.jumps_over (bits_of self.now.frac) program self.now.others.now (span_range domain.now) column
+            (span_range range.now)) }
     {
-        let at_front = self.is_local_on(domain, column, front_of(range))?;
-        let at_back = self.is_local_on(domain, column, back_of(range))?;
-        Ok(at_front || at_back)
+        let at_front = self.are_local_on(domain, front_of(range))?;
+        let at_back = self.are_local_on(domain, back_of(range))?;
+        Ok(either(&at_front, &at_back))
     }
 }

@@ -1,19 +1,21 @@
 //! Rows of a table: the potential at a distance as it is computed, and bounds on its errors up to the next row.
-ghost use Rattle.std.specs.Prelude.{◌≡◌, ◌&&◌, ◌≤◌, ◌<◌, ◌*◌, ◌/◌, ◌++◌, IfOk, length, pos, unsigned_abs, ◌+ℤ◌, ◌-ℤ◌, ◌≤ℤ◌, ◌<ℤ◌};
+ghost use Rattle.std.specs.Prelude.{◌≡◌, ◌&&◌, ◌≤◌, ◌<◌, ◌*◌, ◌/◌, ◌++◌, IfOk, IsTrue, length, pos, unsigned_abs, ◌+ℤ◌, ◌-ℤ◌, ◌≤ℤ◌, ◌<ℤ◌};
 ghost use Rattle.std.specs.Int.{int_max};
 ghost use Rattle.fixed.specs.Fractions.{bits_of};
 ghost use Rattle.job.specs.Views.{job_value};
 ghost use Rattle.kernel_lanes.specs.Lanes.{IsServed};
 ghost use Rattle.interval_domain.specs.Views.{span_range};
 ghost use Rattle.curve_lines.specs.Rows as rows;
-ghost use Rattle.curves.specs.Slices.{AreWorstOver, bounds_view, jumps_over};
+ghost use Rattle.curves.specs.Slices.{AreWorstOver, bounds_view, flag_of, jumps_over};
+ghost use Rattle.curves.specs.declared.slices.Column.{Column};
+ghost use Rattle.curves.specs.declared.slices.Column.TheVariants as column;
 ghost use Rattle.curves.specs.SoFar.{IsPlanned, job_of, program_of};
 ghost use Rattle.curves.specs.Tables.{IsGridOf, IsRow, all_distances, distance_of, distances_of, others_of};
 
 use crate::grids::grid_at;
 use crate::pairs::Pair;
 use crate::planned::PlannedTables;
-use crate::slices::{Column, PairFormula, WorstPart, WorstParts};
+use crate::slices::{Column, Flags, PairFormula, WorstPart, WorstParts};
 use curve_lines::{Row, is_large};
 use fixed::Fx;
 use formula_bounds::Formula;
@@ -89,6 +91,13 @@ fn all_distances<A: Allocator>(job: &Job<A>) -> Span
     }
 }
 
+// Whether two ranges are the same.
+fn is_same(x: Span, y: Span) -> bool
+    ensures { IsTrue result → span_range x ≡ span_range y }
+{
+    x.lo.raw() == y.lo.raw() && x.hi.raw() == y.hi.raw()
+}
+
 impl<'a, A: Allocator + Copy> PlannedTables<'a, A> {
     // A formula for a pair.
     fn formula_of<'b>(&self, formula: &'b Formula<A>, pair: &'b Pair<A>) -> PairFormula<'b, A>
@@ -117,6 +126,17 @@ impl<'a, A: Allocator + Copy> PlannedTables<'a, A> {
         formula.bounds_over(distances)
     }
 
+    // Of each column, whether it jumps in this range, if this is its worst part.
+    fn jumps_in(&self, pair: &Pair<A>, range: Span) -> Result<Flags, AllocError>
+        requires is { IsPlanned self.now }
+        ensures { IfOk result (λ f. (column : Column) → flag_of column f ≡ jumps_over (bits_of self.now.job.now.frac) (program_of self.now)
+            pair.now.others.items (all_distances (job_of self.now)) column (span_range range)) }
+    {
+        let domain = all_distances(self.job);
+        let formula = self.formula_of(&self.potential.formula, pair);
+        formula.jumps_over(&domain, &range)
+    }
+
     // Whether the bound of a column's value is large and a jump.
     fn is_jump(
         &self,
@@ -131,11 +151,39 @@ impl<'a, A: Allocator + Copy> PlannedTables<'a, A> {
             column (span_range worst.range))) }
     {
         if is_large(value, worst.bound) {
-            let domain = all_distances(self.job);
-            let formula = self.formula_of(&self.potential.formula, pair);
-            formula.jumps_over(domain, column, worst.range)
+            let jumps = self.jumps_in(pair, worst.range)?;
+            Ok(jumps.of(column))
         } else {
             Ok(false)
+        }
+    }
+
+    // Of each column, whether the bound of its value is large and a jump. Both columns often have the same worst part.
+    fn jumps_of(
+        &self,
+        pair: &Pair<A>,
+        energy: Fx,
+        slope: Fx,
+        worst: &WorstParts,
+    ) -> Result<Flags, AllocError>
+        requires is { IsPlanned self.now }
+        ensures energy { IfOk result (λ f. f.energy ≡ (rows.is_large energy worst.now.energy.bound
+            && jumps_over (bits_of self.now.job.now.frac) (program_of self.now) pair.now.others.items (all_distances (job_of self.now))
+            column.Energy (span_range worst.now.energy.range))) }
+        ensures slope { IfOk result (λ f. f.slope ≡ (rows.is_large slope worst.now.slope.bound
+            && jumps_over (bits_of self.now.job.now.frac) (program_of self.now) pair.now.others.items (all_distances (job_of self.now))
+            column.Slope (span_range worst.now.slope.range))) }
+    {
+        if is_large(energy, worst.energy.bound)
+            && is_large(slope, worst.slope.bound)
+            && is_same(worst.energy.range, worst.slope.range)
+        {
+            let jumps = self.jumps_in(pair, worst.energy.range)?;
+            Ok(jumps)
+        } else {
+            let energy = self.is_jump(pair, Column::Energy, energy, worst.energy)?;
+            let slope = self.is_jump(pair, Column::Slope, slope, worst.slope)?;
+            Ok(Flags { energy, slope })
         }
     }
 
@@ -184,17 +232,16 @@ impl<'a, A: Allocator + Copy> PlannedTables<'a, A> {
         let query = self.query_of(pair, distance);
         let energy = self.potential.energy_at(self.job, &query);
         let slope = self.potential.slope_at(self.job, &query);
-        let energy_jumps = self.is_jump(pair, Column::Energy, energy, worst.energy)?;
-        let slope_jumps = self.is_jump(pair, Column::Slope, slope, worst.slope)?;
+        let jumps = self.jumps_of(pair, energy, slope, &worst)?;
         let slope_grid = self.grid_of(pair, distance)?;
         Ok(Row {
             distance,
             energy,
             energy_error: worst.energy.bound,
-            energy_jumps,
+            energy_jumps: jumps.energy,
             slope,
             slope_error: worst.slope.bound,
-            slope_jumps,
+            slope_jumps: jumps.slope,
             slope_grid,
         })
     }

@@ -1,6 +1,6 @@
 //! Bounds over ranges of distances: a range is cut into parts, and the worst part is halved until the bounds are close to
 //! those at single distances.
-ghost use Rattle.std.specs.Prelude.{◌≡◌, ◌∷◌, ◌++◌, ◌<◌, ◌-ℤ◌, false, drop, length, map, slice_get, slice_set, take, IfOk, Some};
+ghost use Rattle.std.specs.Prelude.{◌≡◌, ◌∷◌, ◌++◌, ◌<◌, ◌-ℤ◌, false, true, drop, length, map, slice_get, slice_set, take, IfOk, IsTrue, Some};
 ghost use Rattle.fixed.specs.Arithmetic.{is_zero};
 ghost use Rattle.fixed.specs.Fractions.{bits_of};
 ghost use Rattle.energy_program.specs.Programs.{Trees};
@@ -9,7 +9,8 @@ ghost use Rattle.interval_domain.specs.Views.{span_range};
 ghost use Rattle.formula_bounds.specs.Nodes.{formula_of};
 ghost use Rattle.formula_bounds.specs.Walks.{either_if_there, entries_of_program, outcomes_if_there};
 ghost use Rattle.curves.specs.Slices as slices;
-ghost use Rattle.curves.specs.Slices.{AreOfWorst, AreWorstOver, IsNext, IsToHalve, IsWorst, bounds_at, bounds_on, halved_at, in_column, middle, part_on};
+ghost use Rattle.curves.specs.Slices.{AreOfWorst, AreWorstOver, IsNext, IsToHalve, IsWorst, bounds_at, bounds_on, flag_of, halved_at, in_column, middle, part_on};
+ghost use Rattle.curves.specs.declared.slices.Column.{Column};
 ghost use Rattle.curves.specs.declared.slices.Column.TheVariants as column;
 
 use error_bounds::{Approximation, Outcomes};
@@ -63,7 +64,7 @@ impl Bounds {
     }
 }
 
-// A part of a range of distances, and the bounds of one walk over the formula for all of its distances.
+// A part of a range of distances, and the bounds for all of its distances.
 #[derive(Drop)]
 struct Part {
     range: Span,
@@ -118,6 +119,35 @@ pub(crate) struct WorstParts {
     pub(crate) energy: WorstPart,
     /// The one of the slope.
     pub(crate) slope: WorstPart,
+}
+
+/// Of each column, whether it has a property.
+#[derive(Drop)]
+pub(crate) struct Flags {
+    /// Whether the energy has it.
+    pub(crate) energy: bool,
+    /// Whether the slope has it.
+    pub(crate) slope: bool,
+}
+
+impl Model for Flags {
+    ghost use Rattle.curves.specs.Slices as slices;
+
+    ghost Value = { slices.FlagsView };
+
+    ghost view = { λ f. slices.flags f.energy f.slope };
+}
+
+impl Flags {
+    /// Whether a column has the property.
+    pub(crate) fn of(&self, column: Column) -> bool
+        ensures { result ≡ flag_of column self.now }
+    {
+        match column {
+            Column::Energy => self.energy,
+            Column::Slope => self.slope,
+        }
+    }
 }
 
 // The greatest magnitude of an error.
@@ -246,6 +276,13 @@ fn is_close(bound: Option<u64>, tried: Option<u64>) -> bool
     }
 }
 
+// Whether both bounds of a part are close to the bounds at a tried distance.
+fn are_close(part: &Part, tried: &Bounds) -> bool
+    ensures { IsTrue result → (column : Column) → slices.is_close (in_column column part.now.bounds) (in_column column tried.now) ≡ true }
+{
+    is_close(part.bounds.energy, tried.energy) && is_close(part.bounds.slope, tried.slope)
+}
+
 // Whether a column whose worst part is this one is done.
 fn is_done(column: Column, worst: &Part, tried: &Bounds) -> bool
     ensures { result ≡ slices.is_done column worst.now tried.now }
@@ -358,7 +395,7 @@ impl<'a, A: Allocator + Copy> PairFormula<'a, A> {
     pub(crate) fn inputs_on(&self, range: Span) -> Result<Vec<Approximation, A>, AllocError>
         ensures { IfOk result (λ all. all.items ≡ slices.inputs_on self.now.others.now (span_range range)) }
     {
-        let mut inputs = Vec::new(self.alloc);
+        let mut inputs = Vec::with_capacity(self.alloc, self.others.len() + 1)?;
         inputs.push(Approximation::distances(range))?;
         for other in self.others {
             inputs.push(Approximation::as_read(*other))?;
@@ -374,26 +411,22 @@ impl<'a, A: Allocator + Copy> PairFormula<'a, A> {
         Ok(bounds_of(&self.formula.entry(self.alloc, self.frac, inputs)?))
     }
 
-    // The lesser of the bounds of one walk, and those of walks that divide. A walk that didn't divide has the bounds of
-    // one walk.
+    // The lesser of the bounds of one walk, and those of walks that divide.
     fn least_bounds(&self, inputs: &[Approximation]) -> Result<Bounds, AllocError>
         ensures { (program : Trees) → self.now.formula.now ≡ formula_of program
             → IfOk result (λ b. b ≡ slices.least_bounds (slices.plain_bounds (bits_of self.now.frac) program inputs.now)
             (entries_of_program (bits_of self.now.frac) inputs.now program 3)) }
     {
-        let entries = self
+        let (plain, divided) = self
             .formula
             .entries_of_walks(self.alloc, self.frac, inputs, DIVISIONS)?;
-        if entries.len() == 1 {
-            return Ok(bounds_of(&entries[0]));
-        }
-        let plain = self.plain_bounds(inputs)?;
-        if entries.is_empty() {
+        let plain = bounds_of(&plain);
+        if divided.len() < 2 {
             return Ok(plain);
         }
         Ok(Bounds {
-            energy: lesser(plain.energy, bound_of_all(Column::Energy, &entries)),
-            slope: lesser(plain.slope, bound_of_all(Column::Slope, &entries)),
+            energy: lesser(plain.energy, bound_of_all(Column::Energy, &divided)),
+            slope: lesser(plain.slope, bound_of_all(Column::Slope, &divided)),
         })
     }
 
@@ -440,17 +473,6 @@ impl<'a, A: Allocator + Copy> PairFormula<'a, A> {
         self.bounds_on(Span::single(at))
     }
 
-    /// The bounds at two distances, the greater of each column.
-    pub(crate) fn bounds_at_both(&self, low: Fx, high: Fx) -> Result<Bounds, AllocError>
-        ensures { (program : Trees) → self.now.formula.now ≡ formula_of program
-            → IfOk result (λ b. b ≡ slices.greater_bounds (bounds_at (bits_of self.now.frac) program self.now.others.now low)
-            (bounds_at (bits_of self.now.frac) program self.now.others.now high)) }
-    {
-        let first = self.bounds_at(low)?;
-        let last = self.bounds_at(high)?;
-        Ok(greater_of_each(&first, &last))
-    }
-
     // A range as a part.
     fn part_on(&self, range: Span) -> Result<Part, AllocError>
         ensures { (program : Trees) → self.now.formula.now ≡ formula_of program
@@ -483,7 +505,8 @@ impl<'a, A: Allocator + Copy> PairFormula<'a, A> {
     }
 
     /// Bounds over a range of distances, which is halved until its bounds are close to those at single distances, and at
-    /// most 256 times.
+    /// most 256 times. Most ranges have bounds close to those at their first distance, and then those at their last
+    /// distance aren't needed.
     pub(crate) fn bounds_over(&self, range: Span) -> Result<WorstParts, AllocError>
         ensures { (program : Trees) → self.now.formula.now ≡ formula_of program
             → IfOk result (λ w. AreWorstOver (bits_of self.now.frac) program self.now.others.now (span_range range)
@@ -491,7 +514,12 @@ impl<'a, A: Allocator + Copy> PairFormula<'a, A> {
     {
         let mut parts = Vec::new(self.alloc);
         parts.push(self.part_on(range)?)?;
-        let mut tried = self.bounds_at_both(range.lo, range.hi)?;
+        let first = self.bounds_at(range.lo)?;
+        if are_close(&parts[0], &first) {
+            return Ok(worst_parts(&parts));
+        }
+        let last = self.bounds_at(range.hi)?;
+        let mut tried = greater_of_each(&first, &last);
         for halvings in 0..HALVINGS {
             match next(halvings, &parts, &tried) {
                 Some(number) => tried = self.halve(&mut parts, tried, number)?,

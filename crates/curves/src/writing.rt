@@ -13,7 +13,7 @@ use crate::planned::PlannedTables;
 use crate::plans::CurvePlan;
 use crate::potentials::Potential;
 use crate::tables::{BETWEEN_TABLES, put_pair, separator_of};
-use fallible::{Failure, Out, OutFault, write_all};
+use fallible::{Failure, Out, OutFault, write_both};
 use job::Job;
 use std::alloc::Allocator;
 use verifier::Progress;
@@ -28,15 +28,6 @@ fn without_memory(wrote: Result<(), OutFault>) -> Result<(), Failure<OutFault>>
     }
 }
 
-// Writes the lines before a body, and the body.
-fn write_table<O: Out>(out: &mut O, head: &[u8], body: &[u8]) -> Result<(), OutFault>
-    requires { (O.output out.old).failed < 2 ^ 64 - 1 }
-    ensures { Writes (O.output out.old) (O.output out.new) (head.now ++ body.now) result }
-{
-    write_all(out, head)?;
-    write_all(out, body)
-}
-
 // Writes two tables, one after the other: each has these lines before its body, and this body.
 fn write_two<O: Out>(
     out: &mut O,
@@ -48,12 +39,12 @@ fn write_two<O: Out>(
     requires { (O.output out.old).failed < 2 ^ 64 - 1 }
     ensures { Writes (O.output out.old) (O.output out.new) ((head.now ++ body.now) ++ (next_head.now ++ next_body.now)) result }
 {
-    write_table(out, head, body)?;
-    write_table(out, next_head, next_body)
+    write_both(out, head, body)?;
+    write_both(out, next_head, next_body)
 }
 
 impl<'a, A: Allocator + Copy> PlannedTables<'a, A> {
-    // Writes a table behind another text. The table has this body.
+    // Writes a table after another text. The table has this body.
     fn put_table<O: Out>(
         &self,
         out: &mut O,
@@ -69,10 +60,10 @@ impl<'a, A: Allocator + Copy> PlannedTables<'a, A> {
             (O.output out.old) (O.output out.new) result }
     {
         let head = self.head_of(before, a, b)?;
-        without_memory(write_table(out, &head, body))
+        without_memory(write_both(out, &head, body))
     }
 
-    // Writes one table of two types in both orders, behind two empty lines. The table has this body.
+    // Writes one table of two types in both orders, after two empty lines. The table has this body.
     fn put_in_one<O: Out>(
         &self,
         out: &mut O,
@@ -93,7 +84,7 @@ impl<'a, A: Allocator + Copy> PlannedTables<'a, A> {
         self.put_table(out, &before, b, a, body)
     }
 
-    // Writes the table of two types and the table of the same types in the other order, each behind two empty lines.
+    // Writes the table of two types and the table of the same types in the other order, each after two empty lines.
     // They have these bodies.
     fn put_in_two<O: Out>(
         &self,

@@ -37,13 +37,11 @@ module _ (bits : ℕ) (inputs : List Approximation) where
       ap (λ (l : List Entry). walk l [] left ∷ []) (is ∙ sym (append-nil (replicate (length all) missing)))
       ∙ ap (λ (l : List Tree). map (from_definition (length all)) (walks_from bits inputs (length all) l left)) (sym (no_more all definitions same))
 
-  -- a list of this one walk
-  pub first_walk : {A : Type 0} (all : List (Vec Node A)) (definitions : List Tree) (known : List Entry) (left n m : ℕ)
-      (empty new : List Walk) (w : Walk) → n ≡ length all → m ≡ length all → items_of all ≡ map nodes_of definitions
-      → known ≡ replicate m missing → empty ≡ [] → new ≡ empty ++ (w ∷ []) → w ≡ walk known [] left → new ≡ walks_at left n definitions
-  first_walk all definitions known left n m empty new w en em same is none e ew =
-      e ∙ ap (λ (l : List Walk). l ++ (w ∷ [])) none ∙ ap (λ (v : Walk). v ∷ []) ew
-      ∙ started all definitions known left same (is ∙ ap (λ i. replicate i missing) em)
+  pub first_walk : {A : Type 0} (all : List (Vec Node A)) (definitions : List Tree) (known : List Entry) (left n m : ℕ) (walks : List Walk)
+      → n ≡ length all → m ≡ length all → items_of all ≡ map nodes_of definitions → known ≡ replicate m missing
+      → walks ≡ (walk known [] left ∷ []) → walks ≡ walks_at left n definitions
+  first_walk all definitions known left n m walks en em same is e =
+      e ∙ started all definitions known left same (is ∙ ap (λ i. replicate i missing) em)
       ∙ ap (λ i. walks_at left i definitions) (sym en)
 
   -- entries of definitions that are equal give equal walks

@@ -145,6 +145,29 @@ after_definition number w = walk (slice_set w.known number (at_depth w.stack 0))
 abbrev pub top_of : Walk → Entry
 top_of w = at_depth w.stack 0
 
+-- ---- a walk that doesn't divide, beside those that do
+
+-- the walk that doesn't divide, and those that did: none before the first open choice
+pub record AllWalks : Type 0 where
+  pub plain : Walk
+  pub divided : List Walk
+
+abbrev pub all_walks : (plain : Walk) → (divided : List Walk) → AllWalks
+all_walks plain divided = record { plain = plain; divided = divided }
+
+-- the walks that go on with the branches of a node, if it has any
+abbrev pub branched : Node → Option (Entry × Entry) → Walk → List Walk
+branched n None w = []
+branched n (Some (first, second)) w = with_branch n first w ∷ with_branch n second w ∷ []
+
+-- the walk with no choice left at which it may divide
+abbrev pub undivided : Walk → Walk
+undivided w = walk w.known w.stack 0
+
+-- the walks that divide at open choices; before the first one, the walk that doesn't divide is the only one
+abbrev pub dividing : AllWalks → List Walk
+dividing all = w.or_one all.plain all.divided
+
 -- ---- formulas
 
 -- the nodes of the body, and of each definition

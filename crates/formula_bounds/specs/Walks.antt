@@ -1,6 +1,6 @@
 -- Walks that divide: at a choice that isn't decided, a walk may go on as two, one for each branch. A choice is a minimum, a
 -- maximum, an absolute value or a select that depends on the distance.
-use Rattle.std.specs.Prelude.{ℕ, zero, suc, ◌+◌, ◌&&◌, Bool, true, false, if◌then◌else◌, List, [], ◌∷◌, map, Option, Some, None, slice_get}
+use Rattle.std.specs.Prelude.{ℕ, zero, suc, ◌+◌, ◌&&◌, Bool, false, if◌then◌else◌, List, [], ◌∷◌, map, Option, Some, None, slice_get}
 use Rattle.std.specs.List.{flat_map}
 use Rattle.fixed.specs.declared.operations.Operator.{Operator}
 use Rattle.fixed.specs.declared.operations.Operator.TheVariants as op
@@ -129,6 +129,11 @@ module _ (bits : ℕ) where
     entries_of_program (body, definitions) left =
         map (λ (w : Walked). w.entry)
         (flat_map (λ (k : Defined). walks_of (known_from bits 0 k.entries) body k.left) (walks_from 0 definitions left))
+
+-- these elements, or if there are none, this one
+abbrev pub or_one : {A : Type 0} (one : A) → List A → List A
+or_one one [] = one ∷ []
+or_one one (x ∷ xs) = x ∷ xs
 
 -- ---- what several walks say
 

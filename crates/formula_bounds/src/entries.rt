@@ -1,5 +1,5 @@
 //! Entries: the approximations of a tree's value and slope, computed from the entries of its parts.
-ghost use Rattle.std.specs.Prelude.{◌≡◌, ◌≤◌, ◌+◌, pos};
+ghost use Rattle.std.specs.Prelude.{◌≡◌, ◌≤◌, ◌+◌, pos, Some};
 ghost use Rattle.fixed.specs.Fractions.{bits_of};
 ghost use Rattle.derivative.specs.Slope as s;
 ghost use Rattle.derivative.specs.Slope.{unless_constant};
@@ -41,15 +41,18 @@ fn whole(frac: Frac, n: u16) -> Partial
     Some(Approximation::exactly(Fx::from_raw(i64::from(n) * frac.one())))
 }
 
+// The slope of a tree that is free of the distance.
+fn no_slope() -> Partial
+    ensures { result ≡ Some (rules.exactly (pos 0)) }
+{
+    Some(Approximation::exactly(Fx::from_raw(0)))
+}
+
 // A slope, which is 0 for a tree that is free of the distance.
 fn unless_free(free: bool, slope: Partial) -> Partial
     ensures { result ≡ unless_constant (rules.exactly (pos 0)) free slope }
 {
-    if free {
-        Some(Approximation::exactly(Fx::from_raw(0)))
-    } else {
-        slope
-    }
+    if free { no_slope() } else { slope }
 }
 
 // The slope of a product.
@@ -241,7 +244,7 @@ impl Entry {
         Entry {
             free: true,
             value: Some(Approximation::as_read(constant)),
-            slope: Some(Approximation::exactly(Fx::from_raw(0))),
+            slope: no_slope(),
         }
     }
 
@@ -276,7 +279,11 @@ impl Entry {
         Entry {
             free,
             value: operate(frac, operator, &x.value, &y.value),
-            slope: unless_free(free, operation_slope(frac, operator, x, y)),
+            slope: if free {
+                no_slope()
+            } else {
+                operation_slope(frac, operator, x, y)
+            },
         }
     }
 
@@ -287,7 +294,11 @@ impl Entry {
         Entry {
             free: x.free,
             value: apply(frac, UnaryOperator::Apply(function), &x.value),
-            slope: unless_free(x.free, function_slope(frac, function, x)),
+            slope: if x.free {
+                no_slope()
+            } else {
+                function_slope(frac, function, x)
+            },
         }
     }
 
@@ -298,7 +309,11 @@ impl Entry {
         Entry {
             free: x.free,
             value: power(frac, &x.value, i16::from(n)),
-            slope: unless_free(x.free, power_slope(frac, x, n)),
+            slope: if x.free {
+                no_slope()
+            } else {
+                power_slope(frac, x, n)
+            },
         }
     }
 

@@ -7,13 +7,13 @@ ghost use Rattle.energy_program.specs.Tree.{tree_of};
 ghost use Rattle.formula_bounds.specs.Entries as e;
 ghost use Rattle.formula_bounds.specs.Entries.{entries_from, entry_of_program, known_from};
 ghost use Rattle.formula_bounds.specs.Nodes as nodes;
-ghost use Rattle.formula_bounds.specs.Walks.{Defined, entries_of_program, walks_from};
+ghost use Rattle.formula_bounds.specs.Walks.{Defined, entries_of_program, or_one, walks_from};
 ghost use Rattle.formula_bounds.specs.Nodes.{after_node, after_nodes, at_depth, nodes_of};
 
 use crate::entries::Entry;
 use crate::nodes::{Node, append_nodes, has_choice};
 use crate::partial::Partial;
-use crate::walks::{Walk, define_all, tops, walk_all};
+use crate::walks::AllWalks;
 use energy_program::{Expr, Program};
 use error_bounds::Approximation;
 use fixed::{Frac, Operator};
@@ -253,29 +253,33 @@ impl<A: Allocator + Copy> Formula<A> {
         walk(alloc, frac, inputs, &known, &self.body)
     }
 
-    // The walks over all definitions, from the last to the first, each of which divides at up to `left` choices.
+    // The walks over all definitions, from the last to the first, each of which divides at up to `left` choices, and the
+    // walk that doesn't divide.
     fn walks(
         &self,
         alloc: A,
         frac: Frac,
         inputs: &[Approximation],
         left: u32,
-    ) -> Result<Vec<Walk<A>, A>, AllocError>
-        ensures { (program : Trees) → self.now ≡ nodes.formula_of program
-            → IfOk result (λ all. all.items ≡ map (λ (d : Defined). nodes.walk d.entries [] d.left)
+    ) -> Result<AllWalks<A>, AllocError>
+        ensures plain { (program : Trees) → self.now ≡ nodes.formula_of program
+            → IfOk result (λ all. (nodes.undivided all.plain ∷ []) ≡ map (λ (d : Defined). nodes.walk d.entries [] d.left)
+            (walks_from (bits_of frac) inputs.now 0 program.1 0)) }
+        ensures dividing { (program : Trees) → self.now ≡ nodes.formula_of program
+            → IfOk result (λ all. nodes.dividing all ≡ map (λ (d : Defined). nodes.walk d.entries [] d.left)
             (walks_from (bits_of frac) inputs.now 0 program.1 left)) }
     {
-        let mut walks = Vec::new(alloc);
-        walks.push(Walk::new(alloc, no_entries(alloc, self.definitions.len())?, left))?;
+        let mut walks = AllWalks::new(alloc, no_entries(alloc, self.definitions.len())?, left);
         for index in (0..self.definitions.len()).rev() {
-            walk_all(alloc, frac, inputs, &mut walks, &self.definitions[index])?;
-            define_all(&mut walks, index);
+            walks.walk(alloc, frac, inputs, &self.definitions[index])?;
+            walks.define(index);
         }
         Ok(walks)
     }
 
     /// The entries of the formula in all walks on these approximations of its inputs, each of which divides at up to `left`
-    /// open choices. There is at least one walk, and if none divides, its entry is the one that `entry` returns.
+    /// open choices. The first part of the result is the entry of the walk that doesn't divide, as `entry` returns it. The
+    /// second part has the entries of the walks that divided: none if no choice is open.
     ///
     /// Returns an error if memory ran out.
     pub fn entries_of_walks(
@@ -284,12 +288,14 @@ impl<A: Allocator + Copy> Formula<A> {
         frac: Frac,
         inputs: &[Approximation],
         left: u32,
-    ) -> Result<Vec<Entry, A>, AllocError>
-        ensures { (program : Trees) → self.now ≡ nodes.formula_of program
-            → IfOk result (λ all. all.items ≡ entries_of_program (bits_of frac) inputs.now program left) }
+    ) -> Result<(Entry, Vec<Entry, A>), AllocError>
+        ensures plain { (program : Trees) → self.now ≡ nodes.formula_of program
+            → IfOk result (λ all. all.0 ≡ entry_of_program (bits_of frac) inputs.now program) }
+        ensures walks { (program : Trees) → self.now ≡ nodes.formula_of program
+            → IfOk result (λ all. or_one all.0 all.1.items ≡ entries_of_program (bits_of frac) inputs.now program left) }
     {
         let mut walks = self.walks(alloc, frac, inputs, left)?;
-        walk_all(alloc, frac, inputs, &mut walks, &self.body)?;
-        tops(alloc, &walks)
+        walks.walk(alloc, frac, inputs, &self.body)?;
+        walks.tops(alloc)
     }
 }

@@ -22,7 +22,7 @@ pub(crate) fn copied(x: &Partial) -> Partial
     }
 }
 
-/// The approximation of the power `n`.
+/// The approximation of the power `n`; `None` if the base has none.
 pub(crate) fn power(frac: Frac, x: &Partial, n: i16) -> Partial
     ensures { result ≡ (approximate (bits_of frac)).power x.now n }
 {
@@ -32,7 +32,7 @@ pub(crate) fn power(frac: Frac, x: &Partial, n: i16) -> Partial
     }
 }
 
-/// The approximation of `y` if `x` isn't 0, else of `z`.
+/// The approximation of `y` if `x` isn't 0, else of `z`; `None` if `x` has none.
 pub(crate) fn select(x: &Partial, y: &Partial, z: &Partial) -> Partial
     ensures { result ≡ a.selected x.now y.now z.now }
 {
@@ -42,7 +42,7 @@ pub(crate) fn select(x: &Partial, y: &Partial, z: &Partial) -> Partial
     }
 }
 
-/// The approximation of an operation.
+/// The approximation of an operation; `None` if an operand has none.
 pub(crate) fn operate(frac: Frac, operator: Operator, x: &Partial, y: &Partial) -> Partial
     ensures { result ≡ a.operation (bits_of frac) operator x.now y.now }
 {
@@ -52,7 +52,7 @@ pub(crate) fn operate(frac: Frac, operator: Operator, x: &Partial, y: &Partial) 
     }
 }
 
-/// The approximation of a unary operator's value.
+/// The approximation of a unary operator's value; `None` if the operand has none.
 pub(crate) fn apply(frac: Frac, operator: UnaryOperator, x: &Partial) -> Partial
     ensures { result ≡ on_one (unary_rule (bits_of frac) operator) x.now }
 {

@@ -3,8 +3,9 @@ ghost use Rattle.std.specs.Prelude.{◌≡◌, ◌∷◌, ◌++◌, [], ◌<◌,
 ghost use Rattle.std.specs.List.{flat_map};
 ghost use Rattle.fixed.specs.Fractions.{bits_of};
 ghost use Rattle.formula_bounds.specs.Nodes as nodes;
-ghost use Rattle.formula_bounds.specs.Nodes.{after_node_of, after_nodes_of, at_depth, branches_at};
+ghost use Rattle.formula_bounds.specs.Nodes.{after_node_of, after_nodes_of, at_depth, branches_at, dividing, undivided};
 ghost use Rattle.formula_bounds.specs.Entries as e;
+ghost use Rattle.formula_bounds.specs.Walks.{or_one};
 
 use crate::entries::{Entry, branches_of_one, branches_of_select, branches_of_two};
 use crate::formulas::{entry_of, popped};
@@ -267,24 +268,8 @@ fn step_all<A: Allocator + Copy>(
     Ok(())
 }
 
-/// All walks go on by these nodes, from the last to the first.
-pub(crate) fn walk_all<A: Allocator + Copy>(
-    alloc: A,
-    frac: Frac,
-    inputs: &[Approximation],
-    walks: &mut Vec<Walk<A>, A>,
-    nodes: &[Node],
-) -> Result<(), AllocError>
-    ensures { IfOk result (λ _. walks.new.items ≡ after_nodes_of (bits_of frac) inputs.now nodes.now walks.old.items) }
-{
-    for index in (0..nodes.len()).rev() {
-        step_all(alloc, frac, inputs, walks, &nodes[index])?;
-    }
-    Ok(())
-}
-
-/// Sets the entry of the definition with this number to the one on top of the stack, which is removed, in each walk.
-pub(crate) fn define_all<A: Allocator>(walks: &mut Vec<Walk<A>, A>, number: usize)
+// Sets the entry of the definition with this number to the one on top of the stack, which is removed, in each walk.
+fn define_all<A: Allocator>(walks: &mut Vec<Walk<A>, A>, number: usize)
     ensures { walks.new.items ≡ map (nodes.after_definition number) walks.old.items }
 {
     for index in 0..walks.len() {
@@ -292,11 +277,8 @@ pub(crate) fn define_all<A: Allocator>(walks: &mut Vec<Walk<A>, A>, number: usiz
     }
 }
 
-/// The entries on top of the stacks of walks.
-pub(crate) fn tops<A: Allocator + Copy>(
-    alloc: A,
-    walks: &[Walk<A>],
-) -> Result<Vec<Entry, A>, AllocError>
+// The entries on top of the stacks of walks.
+fn tops<A: Allocator + Copy>(alloc: A, walks: &[Walk<A>]) -> Result<Vec<Entry, A>, AllocError>
     ensures { IfOk result (λ all. all.items ≡ map nodes.top_of walks.now) }
 {
     let mut tops = Vec::new(alloc);
@@ -304,4 +286,124 @@ pub(crate) fn tops<A: Allocator + Copy>(
         tops.push(walk.top())?;
     }
     Ok(tops)
+}
+
+/// The walk that doesn't divide, and those that did: none before the first open choice.
+#[derive(Drop)]
+pub(crate) struct AllWalks<A: Allocator> {
+    plain: Walk<A>,
+    divided: Vec<Walk<A>, A>,
+}
+
+impl<A: Allocator> Model for AllWalks<A> {
+    ghost use Rattle.formula_bounds.specs.Nodes as nodes;
+
+    ghost Value = { nodes.AllWalks };
+
+    ghost view = { λ all. nodes.all_walks all.plain all.divided.items };
+}
+
+impl<A: Allocator> AllWalks<A> {
+    /// Sets the entry of the definition with this number to the one on top of the stack, which is removed, in each walk.
+    pub(crate) fn define(&mut self, number: usize)
+        ensures plain { nodes.undivided self.new.plain ≡ nodes.after_definition number (nodes.undivided self.old.plain) }
+        ensures dividing { nodes.dividing self.new ≡ map (nodes.after_definition number) (nodes.dividing self.old) }
+    {
+        self.plain.define(number);
+        define_all(&mut self.divided, number);
+    }
+}
+
+impl<A: Allocator + Copy> AllWalks<A> {
+    /// A walk with these entries of definitions, before its first node. It may divide at up to `left` choices.
+    pub(crate) fn new(alloc: A, known: Vec<Entry, A>, left: u32) -> AllWalks<A>
+        ensures { result ≡ nodes.all_walks (nodes.walk known.items [] left) [] }
+    {
+        AllWalks {
+            plain: Walk::new(alloc, known, left),
+            divided: Vec::new(alloc),
+        }
+    }
+
+    // At an open choice, if no walk divided before, copies of the walk go on with its branches. It isn't inlined, since
+    // other nodes would set up the memory of the branches.
+    #[inline(never)]
+    fn divide(&mut self, alloc: A, frac: Frac, node: &Node) -> Result<(), AllocError>
+        requires { self.old.divided ≡ [] }
+        ensures plain { IfOk result (λ _. self.new.plain ≡ self.old.plain) }
+        ensures divided { IfOk result (λ _. self.new.divided
+            ≡ nodes.branched node.now (nodes.branches_in (bits_of frac) node.now self.old.plain) self.old.plain) }
+    {
+        if let Some((first, second)) = self.plain.branches(frac, *node) {
+            let mut walk = self.plain.copied(alloc)?;
+            let other = walk.divide(alloc, *node, first, second)?;
+            self.divided.push(walk)?;
+            self.divided.push(other)?;
+        }
+        Ok(())
+    }
+
+    // The walks that divide go on by a node.
+    fn step_dividing(
+        &mut self,
+        alloc: A,
+        frac: Frac,
+        inputs: &[Approximation],
+        node: &Node,
+    ) -> Result<(), AllocError>
+        ensures plain { IfOk result (λ _. self.new.plain ≡ self.old.plain) }
+        ensures dividing { IfOk result (λ _. or_one (nodes.gone_on (bits_of frac) inputs.now node.now self.old.plain) self.new.divided
+            ≡ flat_map (after_node_of (bits_of frac) inputs.now node.now) (nodes.dividing self.old)) }
+    {
+        if !self.divided.is_empty() {
+            step_all(alloc, frac, inputs, &mut self.divided, node)
+        } else if is_choice(*node) {
+            self.divide(alloc, frac, node)
+        } else {
+            Ok(())
+        }
+    }
+
+    // Goes on by a node.
+    fn step(
+        &mut self,
+        alloc: A,
+        frac: Frac,
+        inputs: &[Approximation],
+        node: &Node,
+    ) -> Result<(), AllocError>
+        ensures plain { IfOk result (λ _. self.new.plain ≡ nodes.gone_on (bits_of frac) inputs.now node.now self.old.plain) }
+        ensures dividing { IfOk result (λ _. nodes.dividing self.new
+            ≡ flat_map (after_node_of (bits_of frac) inputs.now node.now) (nodes.dividing self.old)) }
+    {
+        self.step_dividing(alloc, frac, inputs, node)?;
+        self.plain.go_on(frac, inputs, *node)
+    }
+
+    /// Goes on by these nodes, from the last to the first.
+    pub(crate) fn walk(
+        &mut self,
+        alloc: A,
+        frac: Frac,
+        inputs: &[Approximation],
+        nodes: &[Node],
+    ) -> Result<(), AllocError>
+        ensures plain { IfOk result (λ _. (undivided self.new.plain ∷ [])
+            ≡ after_nodes_of (bits_of frac) inputs.now nodes.now (undivided self.old.plain ∷ [])) }
+        ensures dividing { IfOk result (λ _. dividing self.new
+            ≡ after_nodes_of (bits_of frac) inputs.now nodes.now (dividing self.old)) }
+    {
+        for index in (0..nodes.len()).rev() {
+            self.step(alloc, frac, inputs, &nodes[index])?;
+        }
+        Ok(())
+    }
+
+    /// The entries on top of the stacks: of the walk that doesn't divide, and of those that did.
+    pub(crate) fn tops(&self, alloc: A) -> Result<(Entry, Vec<Entry, A>), AllocError>
+        ensures plain { IfOk result (λ t. t.0 ≡ nodes.top_of self.now.plain) }
+        ensures dividing { IfOk result (λ t. or_one t.0 t.1.items ≡ map nodes.top_of (nodes.dividing self.now)) }
+    {
+        Ok((self.plain.top(), tops(alloc, &self.divided)?))
+    }
 }
