@@ -23,9 +23,10 @@ use Rattle.engine.specs.Counting.{AllFit}
 use Rattle.engine.specs.Courses.{HasGone, HasRun, IsSameCourse, frames_in, middle_in}
 use Rattle.engine.specs.declared.courses.Course.{Course}
 use Rattle.engine.specs.EngineViews.{IsEngine, IsSystemOf, engine_view}
-use Rattle.engine.specs.Engines.{Advanced, engine_dynamics}
+use Rattle.engine.specs.Engines.{Advanced, IsTyped, engine_dynamics}
 use Rattle.frame_sums.specs.SafeSystems.{safe_dynamics}
 use Rattle.engine.proofs.AdvanceLaws.{Sized, counters_add, steps_added, steps_sized}
+use Rattle.engine.proofs.EngineLaws.{typed_on}
 
 same_frames : {A : Type 0} (a b : Course A) → IsSameCourse a b → frames_in b ≡ frames_in a
 same_frames a b same = ap (λ (p : Frame). frames p b.frames.current.items) same.previous ∙ ap (frames a.frames.previous.items) same.current
@@ -125,6 +126,13 @@ module _ {A : Type 0} (w : Direction) (n : ℕ) (j : Job A) (s : State A) (a b :
   pub sizes : Sized (length s.atoms.items) (frames_in b)
   sizes = subst (λ (k : ℕ). Sized k (frames_in b)) (length-map s.atoms.items atom_view) (reached_sizes w (engine_dynamics (engine_view j s a.system.system)) n (state_view s) (frames_in b) steps_of_state)
 
+  -- the engine whose state is set to the course's frames differs in that state only
+  view-moved : (t : State A) → state_view t ≡ moved_state (state_view s) (frames_in b) b.step → engine_view j t b.system.system
+      ≡ record (engine_view j s a.system.system) { state = moved_state (state_view s) (frames_in b) b.step }
+  view-moved t moved =
+      ap (λ (y : System (SlopeKernel A) A). engine_view j t y) gone.system
+      ∙ ap (λ (v : StateView). record (engine_view j s a.system.system) { state = v }) moved
+
   -- the state that is set to the course's frames makes an engine with it again
   pub is_engine : (t : State A) → state_view t ≡ moved_state (state_view s) (frames_in b) b.step → t.ring ≡ s.ring → length t.atoms.items ≡ length s.atoms.items → IsEngine j t b
   is_engine t moved ring atoms =
@@ -132,6 +140,7 @@ module _ {A : Type 0} (w : Direction) (n : ℕ) (j : Job A) (s : State A) (a b :
       let at : frames_of (state_view t) ≡ (frames_in b) = ap frames_of moved ∙ frames_moved (state_view s) (frames_in b) b.step size.0 size.1 in
       record {
         system = subst (λ (y : System (SlopeKernel A) A). IsSystemOf j t y) (sym gone.system) (rw (ring, atoms) h.system);
+        typed = subst IsTyped (sym (view-moved t moved)) (typed_on (engine_view j s a.system.system) (frames_in b) b.step h.typed);
         frames' = sym at;
         step = sym (ap (λ (v : StateView). v.step) moved);
       }
@@ -146,9 +155,7 @@ module _ {A : Type 0} (w : Direction) (n : ℕ) (j : Job A) (s : State A) (a b :
         stepped = steps_of_state;
         counter = b.step;
         counted = rw (inside, count) refl;
-        moved =
-            ap (λ (y : System (SlopeKernel A) A). engine_view j t y) gone.system
-            ∙ ap (λ (v : StateView). record (engine_view j s a.system.system) { state = v }) moved;
+        moved = view-moved t moved;
       }
 
 -- ---- runs

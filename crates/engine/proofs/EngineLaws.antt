@@ -1,5 +1,5 @@
 -- Engines: properties that follow from their parts, and steps of engines as runs.
-use Rattle.std.proofs.Common.{◌≡◌, ℕ, ◌-◌, ◌*◌, ◌^◌, ◌≤◌, true, false, List, ℤ, pos, ◌+ℤ◌, ◌-ℤ◌, Some, Ok, arith, refl, sym, ◌<◌, is_none, is_some, Option, None, Result, Err}
+use Rattle.std.proofs.Common.{◌≡◌, ℕ, ◌-◌, ◌*◌, ◌^◌, ◌≤◌, true, false, List, ℤ, pos, ◌+ℤ◌, ◌-ℤ◌, Some, Ok, arith, refl, sym, ◌<◌, is_none, is_some, Option, None, Result, Err, subst, ◌∙◌}
 use Rattle.std.specs.Bool.{OnFalse, OnTrue}
 use Rattle.std.proofs.lemmas.Int.{ints}
 use Rattle.fixed.specs.Arithmetic.{in_range}
@@ -10,16 +10,18 @@ use Rattle.job.specs.Values.{JobValue}
 use Rattle.kernel_code.specs.declared.instructions.Instr.{Instr}
 use Rattle.state.specs.StateText.{IsState, StateView}
 use Rattle.integrator.proofs.CounterLaws.{counter_fits}
+use Rattle.integrator.proofs.ReturnLaws.{system-moved}
 use Rattle.potential.specs.Energies.{Energy, energy_of, job_tree}
 use Rattle.engine.specs.Faults.{IsRefusedBy}
-use Rattle.engine.specs.Engines.{AreSafe, CounterFits, CounterLeaves, EngineView, HasNoEngine, HasNoEngineOfTexts, IsEngineOfTexts, OfTexts}
+use Rattle.engine.specs.Engines.{AreSafe, CounterFits, CounterLeaves, EngineView, HasNoEngine, HasNoEngineOfTexts, IsEngineOf, IsEngineOfTexts, IsTyped, OfTexts}
 use Rattle.engine.specs.RunSpecification.{IsTextOf}
 use Rattle.engine.specs.declared.faults.InputFault.{InputFault}
 use Rattle.engine.specs.declared.faults.InputFault.TheVariants as input
 use Rattle.job.specs.JobText.{IsJobText, limits}
 use Rattle.potential.specs.Tables.{table_of}
 use Rattle.integrator.specs.Starts.{system_of}
-use Rattle.integrator.specs.States.{counter_after, counter_at}
+use Rattle.integrator.specs.Frames.{Frames}
+use Rattle.integrator.specs.States.{counter_after, counter_at, moved_state}
 use Rattle.engine.specs.Counting.{AllFit}
 use Rattle.potential.specs.Verdicts.{HasNoKernel, IsAccepted}
 use Rattle.potential.specs.declared.faults.EnergyFault.{EnergyFault}
@@ -55,6 +57,17 @@ leaves w z n (Some k) same = tt
 -- a state's counter is in range
 pub step_fits : (s : StateView) → IsState s → in_range s.step ≡ true
 step_fits s h = in_range_is s.step h.step
+
+-- ---- types of engines
+
+-- the engine of a job and a state has the types of the state's atoms
+pub typed_at : (j : JobValue) (s : StateView) (e : EngineView) → IsEngineOf j s e → IsTyped e
+typed_at j s e is = subst IsTyped (sym is.is) (record { system = is.system; made = is.made; types = refl })
+
+-- frames and counter don't change the types
+pub typed_on : (e : EngineView) (f : Frames) (k : ℤ) → IsTyped e → IsTyped (record e { state = moved_state e.state f k })
+typed_on e f k typed =
+    record { system = typed.system; made = system-moved e.job e.state f k ∙ typed.made; types = typed.types }
 
 -- ---- engines of texts
 

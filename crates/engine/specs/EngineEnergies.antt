@@ -29,12 +29,6 @@ HasNoEnergy e f = HasNoEnergyKernel e.job f
 
 -- ---- from bytes
 
--- the energy of the state of the engine of these texts
-pub record IsEnergyOfTexts (job state : List ℕ) (z : ℤ) : Type 0 where
-  pub engine : EngineView
-  pub opens : IsEngineOfTexts job state engine
-  pub is : IsEnergyOfEngine engine z
-
 -- why the engine of these texts has no energy
 pub record HasNoEnergyOfTexts {A : Type 0} (job state : List ℕ) (f : EnergyFault A) : Type 0 where
   pub engine : EngineView

@@ -10,7 +10,7 @@ use Rattle.state.specs.declared.states.State.{State}
 use Rattle.potential.specs.Energies.{job_program, job_tree}
 use Rattle.engine.specs.Courses.{frames_in}
 use Rattle.engine.specs.declared.courses.Course.{Course}
-use Rattle.engine.specs.Engines.{EngineView}
+use Rattle.engine.specs.Engines.{EngineView, IsTyped}
 use Rattle.frame_sums.specs.SafeSystems.{safe_dynamics}
 use Rattle.integrator.specs.Starts.{as_written, mass_of, types_of}
 use Rattle.integrator.specs.States.{frames_of}
@@ -50,8 +50,10 @@ pub record AreAtomsOf {A : Type 0} (j : Job A) (s : State A) (k : Kernel) (t : T
   pub count : length t.types.items ≡ length s.atoms.items
   pub fits : k.bound * (length s.atoms.items - 1) < 2 ^ 63
 
--- the course is one of the job's system, and is at the frames and the counter of the state
+-- the course is one of the job's system, with the types of the state's atoms, and is at the frames and the counter of
+-- the state
 pub record IsEngine {A : Type 0} (j : Job A) (s : State A) (c : Course A) : Type 0 where
   pub system : IsSystemOf j s c.system.system
+  pub typed : IsTyped (engine_view j s c.system.system)
   pub frames' : frames_in c ≡ frames_of (state_view s)
   pub step : c.step ≡ s.step

@@ -45,6 +45,12 @@ pub record IsEngineOf (j : JobValue) (s : StateView) (e : EngineView) : Type 0 w
   pub is : e ≡ record { job = j; types = system.1; state = s }
   pub safe : IsSafeFor j system.0.code (length s.atoms)
 
+-- the types of an engine are the types of its state's atoms under its job
+pub record IsTyped (e : EngineView) : Type 0 where
+  pub system : Energy × List ℕ
+  pub made : system_of e.job e.state ≡ Ok system
+  pub types : e.types ≡ system.1
+
 -- a statement about the slope code of a job and a state, for use in faults
 pub record OfSlope (j : JobValue) (s : StateView) (holds : List Instr → Type 0) : Type 0 where
   pub system : Energy × List ℕ

@@ -13,7 +13,7 @@ ghost use Rattle.potential.specs.Energies.{job_tree};
 ghost use Rattle.state.specs.StateText.{IsState};
 ghost use Rattle.state.specs.StateViews.{sides_view, state_view};
 ghost use Rattle.engine.specs.Counting.{AllFit};
-ghost use Rattle.engine.specs.Engines.{engine_dynamics, HasNoEngine, IsEngineOf, IsOfState, SaysOnly, Stopped, Advanced};
+ghost use Rattle.engine.specs.Engines.{engine_dynamics, HasNoEngine, IsEngineOf, IsOfState, IsTyped, SaysOnly, Stopped, Advanced};
 ghost use Rattle.engine.specs.EngineForces.{AreForcesOfEngine};
 ghost use Rattle.engine.specs.Observers.{IsNextFrameOfEngine, IsObserverOf};
 ghost use Rattle.engine.specs.EngineEnergies.{HasAcceptedEnergy, HasNoEnergy, IsEnergyOfEngine, engine_value};
@@ -86,10 +86,12 @@ impl<A: Allocator + Copy> Engine<A> {
 
     // ---- the current state of an engine
 
-    /// The engine's current state, which has a text; initially the state passed to `new`.
+    /// The engine's current state, which has a text; initially the state passed to `new`. The engine has the types of
+    /// the state's atoms under its job.
     pub fn state(&self) -> &State<A>
         ensures value { state_view result.now ≡ self.now.state }
         ensures fits { IsState self.now.state }
+        ensures typed { IsTyped self.now }
     {
         &self.state
     }

@@ -12,5 +12,5 @@ mod pairs;
 
 pub use collected::Collected;
 pub use failure::Failure;
-pub use output::{Out, OutFault, write_all};
+pub use output::{Out, OutFault, write_all, write_both};
 pub use pairs::pair;

@@ -1,14 +1,12 @@
 -- Kept observers, which stay ready for an engine after any of its steps, and for other states under its job.
 use Rattle.std.proofs.Common.{◌≡◌, ℕ, Option, Some, is_some, true, refl, sym, subst, ◌∙◌}
 use Rattle.std.proofs.lemmas.Option.{same_Some}
-use Rattle.integrator.proofs.ReturnLaws.{system-moved}
-use Rattle.integrator.specs.States.{moved_state}
 use Rattle.integrator.specs.declared.direction.Direction.{Direction}
 use Rattle.engine.proofs.ObserverLaws.{observer_goes_on, observer_goes_to}
 use Rattle.engine.specs.Engines.{EngineView, Advanced}
 use Rattle.engine.specs.Observers.{IsObserverOf}
 use Rattle.verifier.specs.Kernels.{Kernel}
-use Rattle.runs.specs.Observations.{HasEnergy, IsTyped}
+use Rattle.runs.specs.Observations.{HasEnergy}
 use Rattle.runs.specs.Readiness.{IsReady}
 
 module _ (observes : Type 0) (kept : Option Kernel) where
@@ -29,24 +27,15 @@ module _ (observes : Type 0) (kept : Option Kernel) where
   -- the states after more steps can be shown
   pub ready_on : (direction : Direction) (steps : ℕ) (e f : EngineView) → Advanced direction steps e f → IsReady observes kept e
       → IsReady observes kept f
-  ready_on direction steps e f went ready =
-      let there = record e { state = moved_state e.state went.frames' went.counter } in
-      let stays : IsTyped there = record {
-        system = ready.typed.system;
-        made = system-moved e.job e.state went.frames' went.counter ∙ ready.typed.made;
-        types = ready.typed.types;
-      } in
-      record {
-        typed = subst IsTyped (sym went.moved) stays;
-        keeps = λ has.
-            let keeps = ready.keeps has in
-            record { observer = keeps.observer; is = keeps.is; observes = observer_goes_on direction steps e f keeps.observer went keeps.observes };
-      }
+  ready_on direction steps e f went ready = record {
+    keeps = λ has.
+        let keeps = ready.keeps has in
+        record { observer = keeps.observer; is = keeps.is; observes = observer_goes_on direction steps e f keeps.observer went keeps.observes };
+  }
 
   -- any other state under the same job can be shown
-  pub ready_to : (e f : EngineView) → f.job ≡ e.job → IsTyped f → IsReady observes kept e → IsReady observes kept f
-  ready_to e f same typed ready = record {
-    typed = typed;
+  pub ready_to : (e f : EngineView) → f.job ≡ e.job → IsReady observes kept e → IsReady observes kept f
+  ready_to e f same ready = record {
     keeps = λ has.
         let keeps = ready.keeps has in
         record { observer = keeps.observer; is = keeps.is; observes = observer_goes_to e f keeps.observer same keeps.observes };

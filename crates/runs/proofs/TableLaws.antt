@@ -1,11 +1,11 @@
 -- Tables: rows that are shown of an engine.
 use Rattle.std.proofs.Common.{◌≡◌, ℕ, List, refl}
-use Rattle.engine.specs.Engines.{EngineView}
+use Rattle.engine.specs.Engines.{EngineView, IsTyped}
 use Rattle.observables.specs.Columns.{head_by, row_by}
 use Rattle.observables.specs.declared.columns.Columns.{Columns}
 use Rattle.observables.specs.declared.observations.Observation.{Observation}
 use Rattle.observables.specs.declared.scales.Scales.{Scales}
-use Rattle.runs.specs.Observations.{AreScalesOf, IsObservationOf, IsTableText, IsTyped, headed}
+use Rattle.runs.specs.Observations.{AreScalesOf, IsObservationOf, IsTableText, headed}
 
 -- the table's row for the engine's state
 pub table_text : (columns : Columns) (number : ℕ) (e : EngineView) (scales : Scales) (o : Observation) → IsTyped e → AreScalesOf e scales

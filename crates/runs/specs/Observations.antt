@@ -1,13 +1,12 @@
 -- Observations: the observed values of a state under a job, and their text in a table. The next frame is the one that
 -- follows in time, also if the run goes back.
-use Rattle.std.specs.Prelude.{◌≡◌, ℕ, zero, suc, List, length, ◌++◌, Ok}
+use Rattle.std.specs.Prelude.{◌≡◌, ℕ, zero, suc, List, length, ◌++◌}
 use Rattle.job.specs.Values.{JobValue}
 use Rattle.state.specs.StateText.{StateView}
-use Rattle.potential.specs.Energies.{Energy}
 use Rattle.integrator.specs.Frames.{Frame}
-use Rattle.integrator.specs.Starts.{ring_of, system_of}
+use Rattle.integrator.specs.Starts.{ring_of}
 use Rattle.integrator.specs.States.{current_frame, previous_frame}
-use Rattle.engine.specs.Engines.{EngineView, engine_dynamics}
+use Rattle.engine.specs.Engines.{EngineView, IsTyped, engine_dynamics}
 use Rattle.frame_sums.specs.FrameSums.{ArePairTotals}
 use Rattle.engine.specs.Observers.{IsNextFrameOfEngine, IsObserverOf}
 use Rattle.engine.specs.EngineEnergies.{engine_value}
@@ -46,12 +45,6 @@ abbrev pub HasEnergy : EngineView → Type 0
 HasEnergy e = (kernel : Kernel) × IsObserverOf e kernel
 
 -- ---- of a state under a job
-
--- the engine's types are the types of its state's atoms
-pub record IsTyped (e : EngineView) : Type 0 where
-  pub system : Energy × List ℕ
-  pub made : system_of e.job e.state ≡ Ok system
-  pub types : e.types ≡ system.1
 
 -- the observed values of a state under a job, with their units
 pub record AreObserved (j : JobValue) (s : StateView) (scales : Scales) (o : Observation) : Type 0 where

@@ -3,7 +3,6 @@ use Rattle.std.specs.Prelude.{◌≡◌, Option, Some}
 use Rattle.engine.specs.Engines.{EngineView}
 use Rattle.engine.specs.Observers.{IsObserverOf}
 use Rattle.verifier.specs.Kernels.{Kernel}
-use Rattle.runs.specs.Observations.{IsTyped}
 
 -- an observer is kept that belongs to the engine
 pub record IsKept (kept : Option Kernel) (e : EngineView) : Type 0 where
@@ -11,8 +10,6 @@ pub record IsKept (kept : Option Kernel) (e : EngineView) : Type 0 where
   pub is : kept ≡ Some observer
   pub observes : IsObserverOf e observer
 
--- The states of an engine can be shown: its atoms have the types of its job, and an observer is kept if the texts have
--- energies (`observes`).
+-- the states of an engine can be shown: an observer is kept if the texts have energies (`observes`)
 pub record IsReady (observes : Type 0) (kept : Option Kernel) (e : EngineView) : Type 0 where
-  pub typed : IsTyped e
   pub keeps : observes → IsKept kept e

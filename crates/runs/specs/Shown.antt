@@ -1,5 +1,5 @@
 -- Runs that show states: the texts and reports, and why not all of them.
-use Rattle.std.specs.Prelude.{◌≡◌, ◌⊎◌, ℕ, suc, ◌+◌, ◌-◌, ◌≤◌, ◌<◌, List, [], None, false, is_none, Result, OnOk, IfErr}
+use Rattle.std.specs.Prelude.{◌≡◌, ◌⊎◌, ℕ, suc, ◌+◌, ◌≤◌, ◌<◌, List, [], None, false, is_none, Result, OnOk, IfErr}
 use Rattle.std.specs.List.{All}
 use Rattle.fallible.specs.Failures.{IfRefused}
 use Rattle.fallible.specs.Out.{Output}
@@ -13,8 +13,8 @@ use Rattle.engine.specs.EngineEnergies.{HasNoEnergy, HasNoEnergyOfTexts}
 use Rattle.engine.specs.declared.faults.InputFault.{InputFault}
 use Rattle.runs.specs.Observations.{HasEnergy}
 use Rattle.runs.specs.Plans.{PlanView, last_text, steps_made, steps_to}
-use Rattle.runs.specs.Visits.{BeganText, FailsText, IsShownOfRun, IsTextOnWay, Showing, WroteTexts}
-use Rattle.runs.specs.Watching.{IsInTime, Report, counts_of, hundredths_behind, reports_at}
+use Rattle.runs.specs.Visits.{BeganText, IsShownOfRun, IsTextOnWay, Showing, WroteTexts}
+use Rattle.runs.specs.Watching.{IsInTime, Report, counts_of, hundredths_behind}
 use Rattle.runs.specs.declared.faults.RunFault.{RunFault}
 use Rattle.runs.specs.declared.faults.RunFault.TheVariants as run
 

@@ -3,7 +3,6 @@
 ghost use Rattle.std.specs.Prelude.{◌≡◌, Some, is_some, true, IfErr, IfOk};
 ghost use Rattle.fallible.specs.Failures.{IfRefused};
 ghost use Rattle.engine.specs.EngineEnergies.{HasNoEnergy};
-ghost use Rattle.runs.specs.Observations.{IsTyped};
 ghost use Rattle.runs.specs.Readiness.{IsReady};
 
 use crate::showing::Show;
@@ -37,7 +36,6 @@ impl<A: Allocator + Copy> KeptObserver<A> {
         show: &S,
         engine: &Engine<A>,
     ) -> Result<KeptObserver<A>, Failure<EnergyFault<A>>>
-        requires typed { IsTyped engine.now }
         ensures ready { IfOk result (λ kept. IsReady (S.shows show.now).observes kept engine.now) }
         ensures refused { IfErr result (λ failure. IfRefused failure
             (λ f. (S.shows show.now).observes × HasNoEnergy engine.now f)) }

@@ -1,6 +1,7 @@
 //! The observed values of an engine's state.
 
 ghost use Rattle.std.specs.Prelude.{◌≡◌, IfOk};
+ghost use Rattle.engine.specs.Engines.{IsTyped};
 ghost use Rattle.engine.specs.Observers.{IsObserverOf};
 ghost use Rattle.runs.specs.Observations.{AreScalesOf, IsObservationOf};
 
@@ -8,15 +9,16 @@ use engine::{Engine, Observer};
 use observables::{Observation, Scales, momentum, products, squares};
 use std::alloc::{AllocError, Allocator};
 
-/// The units of the observed integers of an engine.
+/// The units of the observed integers of an engine, which has the types of its state's atoms.
 pub(crate) fn scales<A: Allocator + Copy>(engine: &Engine<A>) -> Scales
-    ensures { AreScalesOf engine.now result }
+    ensures scales { AreScalesOf engine.now result }
+    ensures typed { IsTyped engine.now }
 {
     Scales {
         frac: engine.frac(),
         time_step: engine.time_step(),
         ring: engine.ring(),
-        atoms: engine.masses().len() as u32,
+        atoms: engine.state().atoms.len() as u32,
     }
 }
 

@@ -14,6 +14,20 @@ use integrator::{Direction, Workers};
 use std::alloc::Allocator;
 use std::thread::Threads;
 
+/// A stretch of a run: some of its steps, one after another.
+#[derive(Clone, Copy)]
+pub(crate) struct Stretch {
+    pub direction: Direction,
+    /// The number of steps of the run before the stretch.
+    pub before: u64,
+    /// The number of steps of the stretch.
+    pub steps: u64,
+    /// The number of all steps of the run.
+    pub of: u64,
+    pub workers: Workers,
+    pub ghost within: { before + steps ≤ of },
+}
+
 /// Makes n steps, after `before` earlier ones.
 ///
 /// `Err`: memory ran out after this many steps, including the earlier ones, and before the last.
@@ -45,36 +59,41 @@ pub fn until_hundredth(done: u64, of: u64) -> u64
     (next * u128::from(of)).div_ceil(100) as u64 - done
 }
 
-/// Makes n steps of a run of `of` steps, after `before` earlier ones, and calls the watcher after each hundredth.
+/// Makes the steps of a stretch of a run, and calls the watcher after each hundredth of the run's steps.
 ///
-/// `Err`: memory ran out after this many steps, including the earlier ones, and before the last.
+/// `Err`: memory ran out after this many steps, including those before the stretch, and before the stretch's last.
 pub(crate) fn advance<R: Threads + Sync, A: Allocator + Copy + Send + Sync, W: Watch, O: Out>(
     rt: &R,
     engine: &mut Engine<A>,
-    direction: Direction,
-    steps: u64,
-    workers: Workers,
-    before: u64,
-    of: u64,
+    stretch: &Stretch,
     watch: &mut W,
     out: &O,
 ) -> Result<(), u64>
-    requires fits { AllFit direction engine.old.state.step steps }
-    requires within { before + steps ≤ of }
-    ensures went { OnOk result (Advanced direction steps engine.old engine.new) }
-    ensures told { OnOk result (W.told watch.old watch.new
-        (reports_at (O.output out.now) of (hundredths_behind of before steps))) }
-    ensures stopped { IfErr result (λ done. (made : ℕ) × IsStopped direction before steps made engine.old engine.new done
-        × W.told watch.old watch.new (reports_at (O.output out.now) of (hundredths_behind of before made))) }
+    requires { AllFit stretch.now.direction engine.old.state.step stretch.now.steps }
+    ensures went { OnOk result (Advanced stretch.now.direction stretch.now.steps engine.old engine.new) }
+    ensures told { OnOk result (W.told watch.old watch.new (reports_at (O.output out.now) stretch.now.of
+        (hundredths_behind stretch.now.of stretch.now.before stretch.now.steps))) }
+    ensures stopped { IfErr result (λ done. (made : ℕ)
+        × IsStopped stretch.now.direction stretch.now.before stretch.now.steps made engine.old engine.new done
+        × W.told watch.old watch.new (reports_at (O.output out.now) stretch.now.of
+        (hundredths_behind stretch.now.of stretch.now.before made))) }
 {
+    let (direction, of, workers) = (stretch.direction, stretch.of, stretch.workers);
     if !watch.watches() {
-        return go_on(rt, engine, direction, steps, workers, before);
+        return go_on(
+            rt,
+            engine,
+            direction,
+            stretch.steps,
+            workers,
+            stretch.before,
+        );
     }
     let mut made = 0;
-    while made < steps {
-        let done = before + made;
+    while made < stretch.steps {
+        let done = stretch.before + made;
         let next = until_hundredth(done, of);
-        let more = next.min(steps - made);
+        let more = next.min(stretch.steps - made);
         go_on(rt, engine, direction, more, workers, done)?;
         made += more;
         if more == next {
@@ -102,5 +121,12 @@ pub fn watched_steps<R: Threads + Sync, A: Allocator + Copy + Send + Sync, W: Wa
     ensures stopped { IfErr result (λ done. (made : ℕ) × IsStopped direction 0 steps made engine.old engine.new done
         × W.told watch.old watch.new (reports_at (O.output out.now) steps (hundredths_behind steps 0 made))) }
 {
-    advance(rt, engine, direction, steps, workers, 0, steps, watch, out)
+    let stretch = Stretch {
+        direction,
+        before: 0,
+        steps,
+        of: steps,
+        workers,
+    };
+    advance(rt, engine, &stretch, watch, out)
 }

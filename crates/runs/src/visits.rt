@@ -14,7 +14,7 @@ use crate::faults::{RunFault, text_fault};
 use crate::kept_observers::KeptObserver;
 use crate::plans::Plan;
 use crate::showing::Show;
-use crate::stretches::advance;
+use crate::stretches::{Stretch, advance};
 use crate::watching::Watch;
 use engine::{Engine, InputFault};
 use fallible::Out;
@@ -45,19 +45,14 @@ fn advance_to<R: Threads + Sync, A: Allocator + Copy + Send + Sync, W: Watch, O:
         × W.told watch.old watch.new (reports_at (O.output out.now) (steps_made plan.now)
         (hundredths_behind (steps_made plan.now) before made))) }
 {
-    let steps = plan.steps_to(number) - before;
-    let (direction, workers) = (plan.direction(), plan.workers());
-    advance(
-        rt,
-        engine,
-        direction,
-        steps,
-        workers,
+    let stretch = Stretch {
+        direction: plan.direction(),
         before,
-        plan.made(),
-        watch,
-        out,
-    )
+        steps: plan.steps_to(number) - before,
+        of: plan.made(),
+        workers: plan.workers(),
+    };
+    advance(rt, engine, &stretch, watch, out)
 }
 
 /// Shows the states of an engine that the plan shows, in order. The errors are those of `visit`.

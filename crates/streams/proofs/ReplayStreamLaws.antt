@@ -15,7 +15,7 @@ use Rattle.state.specs.StateText.{StateView, state_text}
 use Rattle.streams.proofs.StreamLaws.{Progress, at_safe, differing_stops, is_all, rest_of, state_stops, stops_at}
 use Rattle.streams.specs.OnTheWay.{HasNoState, IsAt, OfState}
 use Rattle.streams.specs.Plans.{ReplayPlanView}
-use Rattle.streams.specs.Replays.{AreReplayed, IsLineOf, IsNextLine, IsWritten, OfCounters, and_one, begins, goes_on, replayed, replayed_by, segment_line}
+use Rattle.streams.specs.Replays.{AreReplayed, IsLineOf, IsNextLine, IsWritten, and_one, begins, goes_on, replayed, replayed_by, segment_line}
 use Rattle.streams.specs.Replays as replays
 use Rattle.streams.specs.Segments.{Compares, FailsSegment, IsEngineLine, IsEngineText, ReplaysSegment, compared, passed}
 use Rattle.streams.specs.Streams.{Breaks, OfLeft, WritesStates, WritesStream}

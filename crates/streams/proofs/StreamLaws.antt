@@ -13,7 +13,6 @@ use Rattle.engine.specs.declared.faults.InputFault.TheVariants as input
 use Rattle.job.specs.JobText.{IsJobText, limits}
 use Rattle.job.specs.Values.{JobValue}
 use Rattle.potential.specs.declared.faults.EnergyFault.{EnergyFault}
-use Rattle.runs.specs.Observations.{IsTyped}
 use Rattle.runs.specs.Visits.{FailsText, Showing, WroteText}
 use Rattle.runs.specs.declared.faults.TextFault.{TextFault}
 use Rattle.runs.specs.declared.faults.TextFault.TheVariants as unwritten
@@ -68,13 +67,9 @@ not_nil xs h same = h (ap length same)
 
 -- ---- engines of texts
 
--- an engine at a state has its job, and the types of the state's atoms
+-- an engine at a state has its job
 pub at_job : (j : JobValue) (text : List ℕ) (e : EngineView) → IsAt j text e → e.job ≡ j
 at_job j text e at = ap (λ (x : EngineView). x.job) at.is.is
-
-pub at_typed : (j : JobValue) (text : List ℕ) (e : EngineView) → IsAt j text e → IsTyped e
-at_typed j text e at =
-    subst IsTyped (sym at.is.is) (record { system = at.is.system; made = at.is.made; types = refl })
 
 -- the engine of texts has the job of its text
 pub texts_job : (job text : List ℕ) (e : EngineView) → IsEngineOfTexts job text e → IsJobText limits job e.job

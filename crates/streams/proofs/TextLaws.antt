@@ -1,8 +1,7 @@
 -- Texts of quantities of an engine's state.
 use Rattle.std.proofs.Common.{◌≡◌, ℕ, List, ◌++◌, refl}
-use Rattle.engine.specs.Engines.{EngineView}
+use Rattle.engine.specs.Engines.{EngineView, IsTyped}
 use Rattle.line_text.specs.Parts.{ended}
-use Rattle.runs.specs.Observations.{IsTyped}
 use Rattle.state.specs.StateText.{step_line}
 use Rattle.streams.specs.Texts.{IsQuantity, IsStepAndQuantity}
 use Rattle.streams.specs.declared.quantities.Quantity.{Quantity}

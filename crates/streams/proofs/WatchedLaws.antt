@@ -1,5 +1,5 @@
 -- Replays on their way: the segments that were replayed, with their reports, and each end of a replay.
-use Rattle.std.proofs.Common.{◌≡◌, ◌≢◌, ◌⊎◌, ◌<◌, ◌≤◌, ◌+◌, ◌-◌, ◌^◌, ℕ, suc, ℤ, List, [], ◌++◌, Bool, None, Some, append-nil, ap, arith, inl, inr, refl, sym, subst, IfErr, IfSome, OnOk, Result, Ok, Err, ◌∙◌}
+use Rattle.std.proofs.Common.{◌≡◌, ◌≢◌, ◌<◌, ◌≤◌, ◌+◌, ◌-◌, ◌^◌, ℕ, suc, ℤ, List, [], ◌++◌, Bool, None, Some, append-nil, ap, arith, inl, inr, refl, sym, subst, IfErr, IfSome, OnOk, Result, Ok, Err, ◌∙◌}
 use Rattle.engine.specs.Engines.{AreSafe, EngineView, HasNoEngineOfTexts, IsOfState}
 use Rattle.engine.specs.declared.faults.InputFault.{InputFault}
 use Rattle.engine.specs.declared.faults.InputFault.TheVariants as input

@@ -4,11 +4,10 @@ use Rattle.std.specs.Prelude.{◌≡◌, ℕ, ℤ, List, [], ◌∷◌, ◌++◌
 use Rattle.std.specs.Fmt.{signed_decimal}
 use Rattle.engine.specs.EngineEnergies.{IsEnergyOfEngine}
 use Rattle.engine.specs.EngineForces.{AreForcesOfEngine}
-use Rattle.engine.specs.Engines.{EngineView}
+use Rattle.engine.specs.Engines.{EngineView, IsTyped}
 use Rattle.job.specs.Values.{JobValue}
 use Rattle.line_text.specs.Parts.{ended}
 use Rattle.ring_box.specs.declared.vectors.Vector.{Vector}
-use Rattle.runs.specs.Observations.{IsTyped}
 use Rattle.runs.specs.Visits.{Showing}
 use Rattle.state.specs.ForceLines.{force_lines}
 use Rattle.state.specs.StateText.{StateView, step_line}

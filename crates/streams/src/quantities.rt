@@ -4,9 +4,9 @@ ghost use Rattle.std.specs.Prelude.{◌≡◌, IfOk, string_bytes};
 ghost use Rattle.runs.specs.Readiness.{IsReady};
 ghost use Rattle.streams.specs.Texts.{HasEnergies, IsQuantity, ShowsQuantity, energy_line};
 
-use crate::texts::{step_line, write_both};
+use crate::texts::step_line;
 use engine::Engine;
-use fallible::Out;
+use fallible::{Out, write_both};
 use runs::{KeptObserver, Show, TextFault};
 use state::{force_lines, velocity_lines};
 use std::alloc::{AllocError, Allocator};
@@ -79,7 +79,7 @@ impl<A: Allocator + Copy> Show<A> for QuantityTexts<A> {
         out: &mut O,
     ) -> Result<(), TextFault> {
         let lines = quantity_lines(self.alloc, self.quantity, engine, observer)?;
-        write_both(step_line(engine.step()).as_slice(), &lines, out)?;
+        write_both(out, step_line(engine.state().step).as_slice(), &lines)?;
         Ok(())
     }
 }

@@ -9,9 +9,9 @@ use Rattle.runs.proofs.stretches.advance.Goals as goal
 pub loop-made-init : goal.loop-made-init
 loop-made-init g c = record {
   within = omega arith;
-  went = went_nowhere c.args.direction c.args.engine.now (c.requires.fits 0 (omega arith));
+  went = went_nowhere c.args.stretch.now.direction c.args.engine.now (c.requires 0 (omega arith));
   told = subst (g.W.Watch.told c.args.watch.now c.args.watch.now)
-      (sym (ap (reports_at (g.O.Out.output c.args.out.now) c.args.of) (hundredths-zero c.args.of c.args.before)))
+      (sym (ap (reports_at (g.O.Out.output c.args.out.now) c.args.stretch.now.of) (hundredths-zero c.args.stretch.now.of c.args.stretch.now.before)))
       (g.met.W.Watch.told_nothing c.args.watch.now);
 }
 
@@ -24,7 +24,7 @@ loop-made-preserved-then-more-next g c =
       within = omega (arith, c.min-more.ensures);
       went = steps_add _ made more _ _ _ c.loop-made.invariant.went c.in_ok-go_on.ensures.went;
       told = subst (g.W.Watch.told c.args.watch.now c.tell.new.self)
-          (sym (one_more_report (g.O.Out.output c.args.out.now) c.args.of c.args.before made more (rw same c.until_hundredth-next.ensures)))
+          (sym (one_more_report (g.O.Out.output c.args.out.now) c.args.stretch.now.of c.args.stretch.now.before made more (rw same c.until_hundredth-next.ensures)))
           (g.met.W.Watch.told_more _ _ _ _ _ c.loop-made.invariant.told c.tell.ensures);
     }
 
@@ -37,8 +37,8 @@ loop-made-preserved g c =
       within = omega (arith, c.min-more.ensures);
       went = steps_add _ made more _ _ _ c.loop-made.invariant.went c.in_ok-go_on.ensures.went;
       told = subst (g.W.Watch.told c.args.watch.now c.loop-made.watch)
-          (sym (ap (reports_at (g.O.Out.output c.args.out.now) c.args.of)
-          (no_more_hundredth c.args.of c.args.before made c.until_hundredth-next.result more c.until_hundredth-next.ensures few)))
+          (sym (ap (reports_at (g.O.Out.output c.args.out.now) c.args.stretch.now.of)
+          (no_more_hundredth c.args.stretch.now.of c.args.stretch.now.before made c.until_hundredth-next.result more c.until_hundredth-next.ensures few)))
           c.loop-made.invariant.told;
     }
 
@@ -46,8 +46,8 @@ pub go_on-requires-in-loop-made-clause-fits : goal.go_on-requires-in-loop-made-c
 go_on-requires-in-loop-made-clause-fits g c =
     let made = c.loop-made.made in
     let more = c.min-more.result in
-    λ _ _. fits_further c.args.direction made more c.args.engine.now c.loop-made.engine c.loop-made.invariant.went
-    (c.requires.fits (made + more) (omega (arith, c.min-more.ensures, c.loop-made.invariant.within)))
+    λ _ _. fits_further c.args.stretch.now.direction made more c.args.engine.now c.loop-made.engine c.loop-made.invariant.went
+    (c.requires (made + more) (omega (arith, c.min-more.ensures, c.loop-made.invariant.within)))
 
 -- memory ran out, before the next hundredth
 pub returns-in_err-go_on-clause-stopped : goal.returns-in_err-go_on-clause-stopped
@@ -58,11 +58,11 @@ returns-in_err-go_on-clause-stopped g c =
     let few : stopped.0 < c.until_hundredth-next.result = omega (arith, stopped.1.few, c.min-more.ensures) in
     rw (p.1, p.2) (
       made + stopped.0,
-      stopped_later c.args.direction c.args.before c.args.steps made c.min-more.result stopped.0 _ c.args.engine.now c.loop-made.engine
+      stopped_later c.args.stretch.now.direction c.args.stretch.now.before c.args.stretch.now.steps made c.min-more.result stopped.0 _ c.args.engine.now c.loop-made.engine
           c.go_on-in-loop-made.new.engine
           (omega (arith, c.min-more.ensures, c.loop-made.invariant.within)) c.loop-made.invariant.went stopped.1,
       subst (g.W.Watch.told c.args.watch.now c.loop-made.watch)
-          (sym (ap (reports_at (g.O.Out.output c.args.out.now) c.args.of)
-          (no_more_hundredth c.args.of c.args.before made c.until_hundredth-next.result stopped.0 c.until_hundredth-next.ensures
+          (sym (ap (reports_at (g.O.Out.output c.args.out.now) c.args.stretch.now.of)
+          (no_more_hundredth c.args.stretch.now.of c.args.stretch.now.before made c.until_hundredth-next.result stopped.0 c.until_hundredth-next.ensures
           few))) c.loop-made.invariant.told,
     )

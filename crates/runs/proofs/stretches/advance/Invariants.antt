@@ -6,10 +6,10 @@ use Rattle.runs.proofs.stretches.advance.Given as goal
 -- these steps are made, and the hundredths among them were reported
 abbrev pub invariant-loop-made : goal.invariant-loop-made
 invariant-loop-made g l = record {
-  within : l.made ≤ l.steps;
-  went : Advanced l.direction l.made l.fn.engine l.engine;
-  told : g.W.Watch.told l.fn.watch l.watch (reports_at (g.O.Out.output l.out) l.of (hundredths_behind l.of l.before l.made));
+  within : l.made ≤ l.stretch.steps;
+  went : Advanced l.stretch.direction l.made l.fn.engine l.engine;
+  told : g.W.Watch.told l.fn.watch l.watch (reports_at (g.O.Out.output l.out) l.stretch.of (hundredths_behind l.stretch.of l.stretch.before l.made));
 }
 
 abbrev pub decreases-loop-made : goal.decreases-loop-made
-decreases-loop-made g l = l.steps - l.made
+decreases-loop-made g l = l.stretch.steps - l.made

@@ -1,6 +1,5 @@
 use Rattle.std.proofs.Common.{ℕ, ◌<◌, ◌≤◌, ◌-◌}
 use Rattle.engine.specs.Engines.{Advanced}
-use Rattle.fallible.specs.Out.{CanCountFailure}
 use Rattle.runs.specs.Plans.{last_text, steps_to}
 use Rattle.runs.specs.Readiness.{IsReady}
 use Rattle.runs.specs.Shown.{HasShown}

@@ -5,7 +5,7 @@ use Rattle.engine.specs.Engines.{EngineView}
 use Rattle.runs.proofs.ReadinessLaws.{ready_to}
 use Rattle.state.specs.Sources.{with_text}
 use Rattle.streams.specs.OnTheWay.{IsAt}
-use Rattle.streams.proofs.StreamLaws.{at_job, at_typed, count_stops, ends, not_nil, reading_stops, shows_next, state_stops, takes, text_stops}
+use Rattle.streams.proofs.StreamLaws.{at_job, count_stops, ends, not_nil, reading_stops, shows_next, state_stops, takes, text_stops}
 use Rattle.streams.specs.Streams.{shown_by}
 use Rattle.streams.proofs.streams.show_each.Goals as goal
 
@@ -75,8 +75,7 @@ loop-shown-preserved g c =
       few = omega (arith, i.few, c.if-shown.false);
       at = at;
       ready = ready_to _ _ l.engine c.take_state.new.engine
-          (at_job j c.next_text.new.text.items c.take_state.new.engine at ∙ sym (at_job j l.text.items l.engine i.at))
-          (at_typed j c.next_text.new.text.items c.take_state.new.engine at) i.ready;
+          (at_job j c.next_text.new.text.items c.take_state.new.engine at ∙ sym (at_job j l.text.items l.engine i.at)) i.ready;
       failed = c.in_ok-show.ensures.wrote.appends.failed ∙ i.failed;
       progress = λ job job_text.
           let all = with_text c.args.text.now.items (g.L.Lines.left c.args.lines.now) in

@@ -1,3 +1,4 @@
+use Rattle.engine.proofs.EngineLaws.{typed_at}
 use Rattle.engine.proofs.TakenLaws.{engine_taken, safe_with, system_taken}
 use Rattle.engine.proofs.engines.Engine.take.Goals as goal
 
@@ -14,6 +15,8 @@ invariant_of-self-2 g c =
     let taken = c.in_ok-take.ensures in
     record {
       system = system_taken i.job i.state c.args.state i.course.system.system c.self.invariant.system atoms.atoms atoms.ensures.atoms _ taken.taken;
+      typed = typed_at _ _ _
+          (engine_taken i.job i.state c.args.state i.course.system.system c.self.invariant.system atoms.atoms atoms.ensures.atoms _ taken.taken);
       frames' = taken.frames;
       step = taken.step;
     }

@@ -19,7 +19,7 @@ returns-in_err-write_row-clause-fails g c =
     (record {
       text = _;
       shown = table_text c.args.self.now.columns c.args.number c.args.engine.now c.scales.result c.in_ok-observation.observation
-          c.requires.ready.typed (rw c.observe.ensures.engine at c.scales.ensures)
+          (rw c.observe.ensures.engine at c.scales.ensures.typed) (rw c.observe.ensures.engine at c.scales.ensures.scales)
           c.in_ok-observation.ensures.observation _ _ (c.as_slice.ensures.value ∙ c.head-head.ensures) (c.as_slice-2.ensures.value ∙ c.row-row.ensures);
       beginning = c.in_err-write_row.ensures;
     })
@@ -29,7 +29,7 @@ pub returns-clause-wrote : goal.returns-clause-wrote
 returns-clause-wrote g c = record {
   text = _;
   shown = table_text c.args.self.now.columns c.args.number c.args.engine.now c.scales.result c.in_ok-observation.observation
-      c.requires.ready.typed (rw c.observe.ensures.engine at c.scales.ensures)
+      (rw c.observe.ensures.engine at c.scales.ensures.typed) (rw c.observe.ensures.engine at c.scales.ensures.scales)
       c.in_ok-observation.ensures.observation _ _ (c.as_slice.ensures.value ∙ c.head-head.ensures) (c.as_slice-2.ensures.value ∙ c.row-row.ensures);
   appends = c.in_ok-write_row.ensures;
 }

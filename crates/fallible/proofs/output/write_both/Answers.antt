@@ -1,6 +1,6 @@
 use Rattle.std.proofs.Common.{◌++◌, refl}
 use Rattle.fallible.proofs.Appends.{and_then, at_last, hands_on, has_all}
-use Rattle.streams.proofs.texts.write_both.Goals as goal
+use Rattle.fallible.proofs.output.write_both.Goals as goal
 
 -- a beginning of the first part
 pub returns-in_err-write_all : goal.returns-in_err-write_all
