@@ -12,11 +12,13 @@
 #               whether each script starts. The commands need a program: ./pairmd, which `make pairmd` proves and builds, or
 #               another with PROGRAM=.., such as ./pairmd-unproved of `make try`. OVER=.. takes pages and program from an
 #               unpacked package
-#   transcripts run the stored test cases of crates/transcripts/data
+#   transcripts run the stored test cases of transcripts/; PROGRAM=.. as above. Test cases of failing memory and
+#               outputs need the fault injector that `make test` or `tools/build.py fault_injector` builds, or another with
+#               INJECTOR=..; they are skipped without it, and fail if PAIRMD_NEEDS=all
 #   second-reading  recompute runs and tables of the test cases in plain Python; with PROGRAM=.. also verdicts on
 #               listings and other tables of curve
 #   edges       the program on the system's files and streams and at the greatest sizes, and completions in bash;
-#               PROGRAM=.. as above
+#               PROGRAM=.. names another program. The unproved one needs more stack than the least that this tries
 #   python      test the Python module with the program; PROGRAM=.. as above, PYTHON=.. another Python. Tests that need
 #               numpy, ASE, MDAnalysis, Dask or GNU parallel are skipped without them, and fail if PAIRMD_NEEDS=all
 #
@@ -64,8 +66,7 @@ edits:
 	tools/edits.py $(NAMES) --jobs $(JOBS)
 
 transcripts:
-	tools/build.py transcripts --jobs $(JOBS)
-	cd crates/transcripts/data && ../out/transcripts $$(cat ../args)
+	$(NAMED) tools/test_cases.py $(if $(INJECTOR),--injector $(INJECTOR))
 
 second-reading:
 	python3 second_reader/citations.py

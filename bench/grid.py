@@ -10,7 +10,7 @@
                                           and the distance between the two programs' runs from one state
   /usr/bin/python3 bench/grid.py observed the output of `pairmd observe` and `forces` for states of a run, beside OpenMM
 
-PAIRMD names the program. Only `openmm` and `observed` need more than Python: Debian's python3-simtk.
+PAIRMD names the program. `time_step` needs numpy, `openmm` and `observed` need Debian's python3-simtk.
 """
 import argparse
 import math

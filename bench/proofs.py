@@ -6,14 +6,16 @@
 
 Each crate is proved from nothing by one copy of the prover; nothing is kept in crates/*/out. For each function the prover
 checks modules: `Lts` and `Tie` are what it makes of the code, `Proof` has its search, `Answers` what is written. It saves a
-module once the module is checked, and the script reads when. So a module has the wall time since the one before it, scaled
-so that all together have the prover's CPU time. Structs and drops are among the functions. `start` is the time before the
-first module: the compiler's front end, and loaded libraries. `lemmas` are the files of proofs/ that belong to no function.
+module once the module is checked, and the script reads when. It also reads the prover's CPU time, 20 times per second. So a
+module has the CPU time since the one before it, also beside other work. Structs and drops are among the functions. `start`
+is the time before the first module: the compiler's front end, and loaded libraries. `lemmas` are the files of proofs/ that
+belong to no function.
 
 The script prints a table of crates, the longest chain of crates, and the dearest functions (40, or --most N) with their
 dearest modules. A chain is a list of crates, each of which depends on the one before; no build is shorter.
 """
 import argparse
+import bisect
 import os
 import re
 import subprocess
@@ -62,25 +64,43 @@ def saved(folder):
     return sorted((os.stat(it).st_mtime_ns / 1e9, it) for it in files)
 
 
+def used_by(process):
+    """Waits for a process, and returns its status, and its CPU time at some times: two lists of seconds."""
+    times, used = [time.time()], [0.0]
+    while True:
+        ended, status, all_used = os.wait4(process.pid, os.WNOHANG)
+        if ended:
+            return status, [*times, time.time()], [*used, all_used.ru_utime + all_used.ru_stime]
+        with open(f"/proc/{process.pid}/stat", encoding="utf-8") as file:
+            fields = file.read().rpartition(")")[2].split()
+        times.append(time.time())
+        used.append((int(fields[11]) + int(fields[12])) / os.sysconf("SC_CLK_TCK"))
+        time.sleep(0.05)
+
+
+def used_at(when, times, used):
+    """Returns the CPU time at a time, between those at the times read before and after it."""
+    after = min(max(bisect.bisect_left(times, when), 1), len(times) - 1)
+    share = (when - times[after - 1]) / (times[after] - times[after - 1])
+    return used[after - 1] + min(max(share, 0.0), 1.0) * (used[after] - used[after - 1])
+
+
 def proofs_of(rtlib, crate):
     """Proves a crate from nothing, and returns its proofs, or none if the prover rejects it."""
     with tempfile.TemporaryDirectory(prefix="proofs-") as folder:
         words = [rtlib.RATTLE, "check", *crate.words(["--jobs", "1"], keeps=False), "--incremental", folder]
-        begun = time.time()
         prover = subprocess.Popen(words, cwd=crate.folder, stdin=subprocess.DEVNULL, stdout=subprocess.DEVNULL, stderr=subprocess.STDOUT)
-        _, status, used = os.wait4(prover.pid, 0)
-        ended = time.time()
-        modules = saved(folder)
+        status, times, used = used_by(prover)
+        modules = [(used_at(when, times, used), path) for when, path in saved(folder)]
     if status or not modules:
         return []
     sums, before = {}, modules[0][0]
-    for when, path in modules:
+    for now, path in modules:
         key = proof_of(path)
-        sums[key] = sums.get(key, 0.0) + when - before
-        before = when
-    scale = (used.ru_utime + used.ru_stime) / (ended - begun)
-    rows = [("start", "start", modules[0][0] - begun), *((*key, spent) for key, spent in sums.items()), ("end", "end", ended - before)]
-    return [Proof(crate.name, name, kind, spent * scale) for name, kind, spent in rows]
+        sums[key] = sums.get(key, 0.0) + now - before
+        before = now
+    rows = [("start", "start", modules[0][0]), *((*key, spent) for key, spent in sums.items()), ("end", "end", used[-1] - before)]
+    return [Proof(crate.name, name, kind, spent) for name, kind, spent in rows]
 
 
 def seconds_by_crate(proofs):

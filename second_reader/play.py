@@ -1,7 +1,7 @@
 #!/usr/bin/env python3
 """Plays each `run` and `back` of the transcripts with the definitions, and compares the transcripts' output.
 
-  play.py [TRANSCRIPT ..]     all of crates/transcripts/data by default
+  play.py [TRANSCRIPT ..]     all of transcripts/ by default
 
 If a test case prints a state, the specification must have that text; with `returns`, the same number of steps the other
 way must lead to the starting state. If a test case is rejected for a reason that the specification knows, there must be
@@ -22,7 +22,7 @@ from run_specification import NoText, TooMuchWork, job_says, levesque_verlet_run
 from steps import Direction
 from transcripts import Files, NoSuchFile, made_by, rows_of
 
-DATA = Path(__file__).resolve().parent.parent / "crates" / "transcripts" / "data"
+DATA = Path(__file__).resolve().parent.parent / "transcripts"
 
 # For each error that the specification knows, the field of IsLevesqueVerletRun that doesn't exist.
 FIELDS = {

@@ -4,7 +4,26 @@ Everything is bytes, since a transcript may contain any.
 """
 import re
 from dataclasses import dataclass, field
-from typing import List
+from enum import Enum
+from typing import Callable, List, Optional, Tuple
+
+
+class Kind(Enum):
+    """What a line of a transcript is."""
+
+    PROSE = 0
+    COMMAND = 1
+    TEXT = 2  # a line of the file that the command above writes
+    OUTPUT = 3
+
+
+def kind_of(line: bytes) -> Kind:
+    """The kind of a line of a transcript."""
+    if line.startswith(b"  $ "):
+        return Kind.COMMAND
+    if line == b"  >" or line.startswith(b"  > "):
+        return Kind.TEXT
+    return Kind.OUTPUT if line.startswith(b"  ") else Kind.PROSE
 
 
 @dataclass
@@ -15,6 +34,7 @@ class Row:
     line: int
     words: List[bytes]
     written: List[bytes] = field(default_factory=list)  # the lines of the file that the command writes
+    output: List[bytes] = field(default_factory=list)  # all lines of output, and the line of a status
     printed: List[bytes] = field(default_factory=list)
     status: int = 0
 
@@ -30,26 +50,36 @@ class Row:
         return text[: -len(no_end)] if text.endswith(no_end) else text
 
 
-def words_of(command):
-    """The words of a command: parts between blanks, and parts between two quotation marks."""
+def words_of(command: bytes) -> List[bytes]:
+    """The words of a command: parts between blanks, and parts between two quotation marks. After `$` the escapes of such
+    a part are replaced.
+    """
     words = []
     for number, part in enumerate(command.split(b"'")):
-        words += [part] if number % 2 else part.split()
+        if number % 2 == 0:
+            words += part.split()
+        elif words[-1:] == [b"$"]:
+            words[-1] = unescaped(part)
+        else:
+            words.append(part)
     return words
 
 
-def rows_of(transcript, text):
+def rows_of(transcript: str, text: bytes) -> List[Row]:
     """The test cases of a transcript."""
     rows = []
     for number, line in enumerate(text.split(b"\n"), 1):
-        if line.startswith(b"  $ "):
+        kind = kind_of(line)
+        if kind is Kind.COMMAND:
             rows.append(Row(transcript, number, words_of(line[4:])))
-        elif line == b"  >" or line.startswith(b"  > "):
+        elif kind is Kind.TEXT:
             rows[-1].written.append(line[4:])
-        elif re.fullmatch(rb"  \[[0-9]+\]", line):
-            rows[-1].status = int(line[3:-1])
-        elif line.startswith(b"  "):
-            rows[-1].printed.append(line[2:])
+        elif kind is Kind.OUTPUT:
+            rows[-1].output.append(line[2:])
+            if re.fullmatch(rb"  \[[0-9]+\]", line):
+                rows[-1].status = int(line[3:-1])
+            else:
+                rows[-1].printed.append(line[2:])
     return rows
 
 
@@ -79,6 +109,20 @@ def listing_of(lines):
     return b"pairmd code 1\n" + b"".join(line.strip() + b"\n" for line in lines.split(b","))
 
 
+Text = Optional[bytes]  # None for a text that isn't known
+
+
+def change_of(words: List[bytes]) -> Optional[Tuple[bytes, Callable[[Text], Text], List[bytes]]]:
+    """The change of a file in front of a command, `with NAME N TEXT` or `listing LINES`: the file's name, its new text as a
+    function of its old one, and the words after the change. None if there is no change.
+    """
+    if words[:1] == [b"with"]:
+        return words[1], lambda file: None if file is None else with_line(file, int(words[2]), words[3]), words[4:]
+    if words[:1] == [b"listing"]:
+        return b"listing", lambda _: listing_of(words[1]), words[2:]
+    return None
+
+
 class NoSuchFile(Exception):
     """A file with unknown contents: a command that the specification doesn't define makes it, or it doesn't exist."""
 
@@ -106,24 +150,18 @@ class Files:
         return self.files[name]
 
     def changed(self, words):
-        """The files after the changes `with NAME N TEXT` and `listing LINES` in front of a command, and the words after
-        these.
-        """
+        """The files after the changes in front of a command, and the words after these."""
         changed = Files(self.folder)
         changed.files = dict(self.files)
-        while words[:1] in ([b"with"], [b"listing"]):
-            if words[0] == b"listing":
-                changed.write(b"listing", listing_of(words[1]))
-                words = words[2:]
-                continue
-            changed.write(words[1], changed.with_line_or_unknown(*words[1:4]))
-            words = words[4:]
+        while change := change_of(words):
+            name, new_text, words = change
+            changed.write(name, new_text(changed.text(name)))
         return changed, words
 
-    def with_line_or_unknown(self, name, number, text):
-        """The file with a line replaced by a text; None if the file isn't known."""
+    def text(self, name):
+        """The bytes of a file; None if they aren't known."""
         try:
-            return with_line(self.read(name), int(number), text)
+            return self.read(name)
         except NoSuchFile:
             return None
 

@@ -28,8 +28,7 @@ HEAD = """# Clauses by crate
 section begins with the first sentence of the crate's source, and its dependencies; those that another dependency
 implies are left out. Each entry is a function marked `pub`, exported from its crate or not, with its file in `src/`:
 what it returns, then the labels of its clauses with the definitions that they cite. A clause without a label is listed
-as *result*. [MODEL](MODEL.md) explains
-the definitions, and [PROOFS](PROOFS.md) the promises that rest on them.
+as *result*. [MODEL](MODEL.md) explains the definitions, and [PROOFS](PROOFS.md) the promises that depend on them.
 
 A mutant is an edit of the code that the prover must reject; its name says what goes wrong. The CI gate tries the
 mutants in **bold**, `make edits` the others. A mutant with an asterisk is a bug that once met every contract and every

@@ -37,8 +37,8 @@ def reading(promise):
 
 
 def played():
-    """The number of commands of each transcript, as the CI gate compares them."""
-    return [int(line.split()[1]) for text in texts("crates/transcripts/stdout") for line in text.splitlines()]
+    """The number of commands of each transcript, as `make transcripts` compares them."""
+    return [int(line.split()[1]) for text in texts("transcripts/counts") for line in text.splitlines()]
 
 
 def wide():
@@ -97,6 +97,7 @@ COUNTS = [
     ("README.md", "workers (threads) from 1 to N,", WORKERS),
     ("README.md", "more than N atoms", ATOMS),
     ("README.md", "on N random listings", LISTINGS),
+    ("README.md", "This is version N ([changes]", VERSION),
     ("examples/README.md", "A state has at most N atoms", ATOMS),
     ("docs/MODEL.md", "one of 1 to N threads", WORKERS),
     ("docs/GUIDE.md", "more than N atoms or N types", several(ATOMS, TYPES)),

@@ -81,7 +81,7 @@ def overview():
 
 def transcripts():
     """The errors that commands print in the transcripts, without what a player adds before and after."""
-    return {line for path in glob.glob(f"{ROOT}/crates/transcripts/data/*.t") for line in PRINTED.findall(read(path))}
+    return {line for path in glob.glob(f"{ROOT}/transcripts/*.t") for line in PRINTED.findall(read(path))}
 
 
 def head(text):
@@ -121,7 +121,7 @@ def limits(texts):
 
 def advice(texts):
     """The codes and words of advice that the transcript of explanations follows, and the faults of these."""
-    followed = ADVICE.findall(read(f"{ROOT}/crates/transcripts/data/explanations.t").partition("\n## Advice\n")[2])
+    followed = ADVICE.findall(read(f"{ROOT}/transcripts/explanations.t").partition("\n## Advice\n")[2])
     advised = {code: " ".join(text.partition("What to do: ")[2].split()) for code, text in texts.items()}
     missing = [(code, words) for code, words in followed if words not in advised.get(code, "")]
     return followed, [f"{code}: it doesn't advise: {words}" for code, words in missing]

@@ -39,7 +39,6 @@ ELSEWHERE = {
     "DeterministicForces": "a property of OpenMM's platforms",
     "XVGReader": "a class of MDAnalysis",
     "console": "the language of a fenced block",
-    "crates/transcripts/out/transcripts": "`make transcripts` builds it",
     "gromacs": "a package of Debian",
     "kT": "Boltzmann's constant times a temperature",
     "later.gro": "the reader's file, in GUIDE",
@@ -137,7 +136,7 @@ class Folders:
     """The directories at which the paths of an item may begin."""
 
     def __init__(self, page: str) -> None:
-        self.always = ["", "crates", os.path.dirname(page), "examples", "crates/transcripts/data"]
+        self.always = ["", "crates", os.path.dirname(page), "examples", "transcripts"]
         self.named: list[str] = []
 
     def found(self, path: str) -> str | None:
