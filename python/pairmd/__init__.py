@@ -13,7 +13,7 @@ pressures in bar. Grid coordinates are integers: x along a side of L nm means x 
 as an object (`Job`, `State`) or as the path of a file.
 
 - `job`, `state`, `gro`, `table`: the files, with checks of their formats.
-- `program`: each command of the program as a function.
+- `program`: each command of the program as a function, except `replay`.
 - `temperatures`, `equilibration`, `lattice`: starts of runs, in exact integers.
 - `averages`, `tails`: averages with errors, tail corrections.
 - `structure`, `motion`, `stress`: g(r), S(q); displacements, F_s(q, t), velocity and stress correlation, viscosity.
