@@ -114,7 +114,7 @@ class Edits:
     def __init__(self, trial, over_gate, crates):
         self.trial, self.over_gate = trial, over_gate
         self.crates, self.trials, self.beginning = deque(crates), deque(), 0
-        self.passed, self.failed, self.guard = 0, 0, threading.Condition()
+        self.passed, self.failed, self.guard = 0, [], threading.Condition()
 
     def run(self):
         """Runs one task after the other until none is left."""
@@ -163,7 +163,8 @@ class Edits:
 
     def tell(self, refused, said):
         with self.guard:
-            self.passed, self.failed = self.passed + refused, self.failed + (not refused)
+            self.passed += refused
+            self.failed += [] if refused else [said[:400]]
             print(said[:400], flush=True)
 
 
@@ -192,7 +193,10 @@ def main():
     with ThreadPoolExecutor(given.jobs) as pool:
         for lane in [pool.submit(edits.run) for _ in range(given.jobs)]:
             lane.result()
-    print(f"edits: {edits.passed} passed, {edits.failed} failed")
+    # once more, since the end of CI's output is what is kept of it
+    for said in edits.failed:
+        print(said)
+    print(f"edits: {edits.passed} passed, {len(edits.failed)} failed")
     return 1 if edits.failed else 0
 
 
