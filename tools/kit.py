@@ -11,6 +11,8 @@ import threading
 
 sys.dont_write_bytecode = True
 ROOT = os.path.dirname(os.path.dirname(os.path.realpath(__file__)))
+# of a mutant, if they end without a verdict
+TRIALS = 2
 
 
 def module(name):
@@ -103,13 +105,16 @@ class Trial:
 
     def refused(self, crate, edit, room):
         """Returns whether the prover rejected the mutant, tried over a copy of the directory's results, and the message
-        of `rt`.
+        of `rt`. A trial that ends without a verdict, because its process was killed say, is made once more.
         """
         over = f"{room}/{os.path.basename(edit)}"
-        if hasattr(self.rt, "linked"):
-            self.rt.linked(f"{room}/seed", over)
-        else:
-            shutil.copytree(f"{room}/seed", over)
-        ended, said = self.rt.must_fail(crate, edit, self.FLAGS, over)
-        shutil.rmtree(over, ignore_errors=True)
+        for _ in range(TRIALS):
+            if hasattr(self.rt, "linked"):
+                self.rt.linked(f"{room}/seed", over)
+            else:
+                shutil.copytree(f"{room}/seed", over)
+            ended, said = self.rt.must_fail(crate, edit, self.FLAGS, over)
+            shutil.rmtree(over, ignore_errors=True)
+            if isinstance(ended, bool) or ended != self.rt.UNSURE:
+                break
         return ended if isinstance(ended, bool) else ended in (self.rt.REFUSED, self.rt.AT_LIMIT), said
