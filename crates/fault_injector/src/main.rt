@@ -10,6 +10,7 @@
 mod faults;
 mod outcomes;
 mod outputs;
+mod refusing_memory;
 
 use crate::faults::Fault;
 use crate::outcomes::run;

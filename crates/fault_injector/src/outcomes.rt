@@ -2,9 +2,9 @@
 
 use crate::faults::Fault;
 use crate::outputs::Output;
+use crate::refusing_memory::RefusingAllocator;
 use cli::execute;
 use host::{HostFiles, Stream};
-use refusing_memory::RefusingAllocator;
 use std::fs::Files;
 use std::io::{self, Input};
 use std::thread::Threads;

@@ -36,7 +36,7 @@ pub use denote.RawPtr.{block_ptr}
 pub use denote.Builtin.{usize, RefOf}
 pub use denote.Triple.Call.{calls_at}
 pub use Rattle.std.proofs.alloc.Calls.{Al, α, seen}
-use Rattle.refusing_memory.specs.contracts.RefusingAllocator as wrapper
+use Rattle.fault_injector.specs.contracts.refusing_memory.RefusingAllocator as wrapper
 
 module _ (Z : Al) where
   -- the inner allocator, the type argument of both functions

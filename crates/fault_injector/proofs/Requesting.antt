@@ -9,10 +9,10 @@ use denote.Memory.{hidden_shr}
 use denote.Builtin.{bool, unit}
 use denote.Steps.{only}
 use denote.Triple.Statement.{Contract}
-use Rattle.refusing_memory.proofs.Walks.{◌≡◌, ℕ, List, [], ◌∷◌, refl, Ura, Val, vptr, SProp, ent, id⊢, Lft, Share, ftrue, flft, Memory, Routine, Logic, Fun, ‵, ◌⊛◌, later, ◌$◌, ◌∵◌, !, qed, move, keep, use1, split, join, fjoin, await, done, RattleType, nothing, triple_of}
-use Rattle.refusing_memory.specs.contracts.Requests as counted
-use Rattle.refusing_memory.specs.contracts.Requests.refuses_next as asked
-use Rattle.refusing_memory.specs.contracts.Requests.count_return as counting
+use Rattle.fault_injector.proofs.Walks.{◌≡◌, ℕ, List, [], ◌∷◌, refl, Ura, Val, vptr, SProp, ent, id⊢, Lft, Share, ftrue, flft, Memory, Routine, Logic, Fun, ‵, ◌⊛◌, later, ◌$◌, ◌∵◌, !, qed, move, keep, use1, split, join, fjoin, await, done, RattleType, nothing, triple_of}
+use Rattle.fault_injector.specs.contracts.refusing_memory.Requests as counted
+use Rattle.fault_injector.specs.contracts.refusing_memory.Requests.refuses_next as asked
+use Rattle.fault_injector.specs.contracts.refusing_memory.Requests.count_return as counting
 
 -- the type of the counter of requests
 abbrev pub Requests : RattleType

@@ -7,14 +7,14 @@ use types.Kit.{some, at_ret, prop, Sq, pick, use0}
 use types.ByLocal.{env}
 use Rattle.std.proofs.VecSteps.Shapes.{after}
 use Rattle.std.proofs.alloc.Calls.{Answer, answer_val, Answer-typed, Answer-Ok, Answer-err, takes_key, Takes, at_takes, Answered, Takes-goes, Takes-gives, answers}
-use Rattle.refusing_memory.proofs.Requesting.{Asks, at_asks, Asks-goes, Asks-gives}
-use Rattle.refusing_memory.proofs.Walks.{◌≡◌, ℕ, ◌^◌, ◌<◌, List, [], ◌∷◌, refl, w64, Bor, Ura, Ty, Fn, Val, vint, vptr, inst_fn, SProp, ent, id⊢, Lft, Share, ftrue, flft, Memory, size, align, capped, Routine, WpFn, Tables, Logic, ◌⊑◌, ⊑_trans, Fun, fact, tables, tables_of, fm_of, WpFn-mono, stop, fld, addr, no_more, and_then, returns, enter, yes, owns, shr_vals, unhide, uint_vals, uint_Tells, plain, types_at, heard, nothing, Ended, Clauses, triple_of, Triple, entered, cited, Stays, stay_dropped, walk_of, ends_at, walked, Goes-dropped, walk_Meets, ‵, raw, ◌⊛◌, later, given, learn, ◌$◌, ◌∵◌, !, qed, move, keep, use1, use2, split, join, fsplit, fjoin, suffices, await, done, alloc_all, pass_all, free_all, look_at, get, through, sets, lands_as, block_ptr, usize, calls_at, Al, seen, args, Refusing, self, inner_at, counters_at}
-use Rattle.refusing_memory.proofs.Requests.refuses_next.Symbol as c_sym
-use Rattle.refusing_memory.proofs.Requests.refuses_next.Met as c_met
-use Rattle.refusing_memory.specs.contracts.RefusingAllocatorAllocator.allocate as F
-use Rattle.refusing_memory.specs.contracts.RefusingAllocatorAllocator.allocate.Key as key
-use Rattle.refusing_memory.proofs.RefusingAllocatorAllocator.allocate.Statement as stated
-use Rattle.refusing_memory.proofs.RefusingAllocatorAllocator.allocate.Code as code
+use Rattle.fault_injector.proofs.Requesting.{Asks, at_asks, Asks-goes, Asks-gives}
+use Rattle.fault_injector.proofs.Walks.{◌≡◌, ℕ, ◌^◌, ◌<◌, List, [], ◌∷◌, refl, w64, Bor, Ura, Ty, Fn, Val, vint, vptr, inst_fn, SProp, ent, id⊢, Lft, Share, ftrue, flft, Memory, size, align, capped, Routine, WpFn, Tables, Logic, ◌⊑◌, ⊑_trans, Fun, fact, tables, tables_of, fm_of, WpFn-mono, stop, fld, addr, no_more, and_then, returns, enter, yes, owns, shr_vals, unhide, uint_vals, uint_Tells, plain, types_at, heard, nothing, Ended, Clauses, triple_of, Triple, entered, cited, Stays, stay_dropped, walk_of, ends_at, walked, Goes-dropped, walk_Meets, ‵, raw, ◌⊛◌, later, given, learn, ◌$◌, ◌∵◌, !, qed, move, keep, use1, use2, split, join, fsplit, fjoin, suffices, await, done, alloc_all, pass_all, free_all, look_at, get, through, sets, lands_as, block_ptr, usize, calls_at, Al, seen, args, Refusing, self, inner_at, counters_at}
+use Rattle.fault_injector.proofs.refusing_memory.Requests.refuses_next.Symbol as c_sym
+use Rattle.fault_injector.proofs.refusing_memory.Requests.refuses_next.Met as c_met
+use Rattle.fault_injector.specs.contracts.refusing_memory.RefusingAllocatorAllocator.allocate as F
+use Rattle.fault_injector.specs.contracts.refusing_memory.RefusingAllocatorAllocator.allocate.Key as key
+use Rattle.fault_injector.proofs.refusing_memory.RefusingAllocatorAllocator.allocate.Statement as stated
+use Rattle.fault_injector.proofs.refusing_memory.RefusingAllocatorAllocator.allocate.Code as code
 
 module _ (Z : Al) where
   abbrev here : Fn
@@ -89,4 +89,4 @@ allocate_spec 𝓤 𝓛 𝓜 𝓡 wired Y L g d d' met _ =
     entered 𝓤 𝓛.H (triple_of 𝓛 (F.signature Y) (F.spec Y g d d' 𝓛 𝓜.mem 𝓡.returns)) 𝓣.C 𝓣.Λ (key.name (args Z)) (here Z) (code.unfolded 𝓤 𝓛.H 𝓜 𝓡 wired (Y, tt) d d')
     (walk_Meets 𝓛 (ended Z) (stayed Z) (Goes-dropped 𝓛 2 (self Z) yes (λ κs x f. refl), (Goes-dropped 𝓛 2 (plain (λ _. usize)) yes (λ κs x f. refl), (Goes-dropped 𝓛 2 (plain (λ _. usize)) yes (λ κs x f. refl), tt))) c (WpFn 𝓤 𝓛.H 𝓣.C 𝓣.Λ (here Z)) (WpFn-mono 𝓤 𝓛.H 𝓛.laws 𝓣 (here Z))
     (walked 𝓛 (ended Z) (stayed Z) c (WpFn 𝓤 𝓛.H 𝓣.C 𝓣.Λ (here Z)) (λ κs. (shr_vals, (uint_vals w64, (uint_vals w64, tt)))) (λ κs. ((λ r vs s. s.0), (uint_Tells w64, (uint_Tells w64, tt))))
-    (λ κs qs bounds a τ are. walk Z 𝓛 𝓜.mem 𝓡.returns 𝓣 (met.allocate d') (cited 𝓤 𝓛.H _ 𝓜 𝓡 𝓡.env c_sym.name (𝓡.env c_sym.name) refl (c_met.met 𝓤 𝓛 𝓜 𝓡 (code.calls-refusing_memory::Requests::refuses_next 𝓡.env wired))) κs.0 κs.1.0 qs.0 qs.1.0 bounds.0 a.0 a.1.0 a.1.1.0 τ are.1.0.1 are.1.1.0.1)))
+    (λ κs qs bounds a τ are. walk Z 𝓛 𝓜.mem 𝓡.returns 𝓣 (met.allocate d') (cited 𝓤 𝓛.H _ 𝓜 𝓡 𝓡.env c_sym.name (𝓡.env c_sym.name) refl (c_met.met 𝓤 𝓛 𝓜 𝓡 (code.calls-fault_injector::refusing_memory::Requests::refuses_next 𝓡.env wired))) κs.0 κs.1.0 qs.0 qs.1.0 bounds.0 a.0 a.1.0 a.1.1.0 τ are.1.0.1 are.1.1.0.1)))

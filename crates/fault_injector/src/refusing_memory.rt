@@ -1,6 +1,5 @@
-//! An allocator for tests, in which one request fails, or none.
-//! The allocator is a type parameter of every call that requests memory, so that a test can pass this one.
-#![tactic(auto)]
+//! An allocator in which one request fails, or none. The allocator is a type parameter of every call that requests
+//! memory, so commands can be run with this one.
 
 ghost use Rattle.std.specs.Prelude.{◌≡◌};
 
@@ -9,7 +8,7 @@ use std::sync::atomic::{AtomicU64, Ordering};
 
 /// Passes requests for memory on to another allocator, except one if one is to fail. Requests are counted from 0, over
 /// all threads that share the allocator; a collection's growth is a request.
-pub struct RefusingAllocator<B: Allocator> {
+pub(crate) struct RefusingAllocator<B: Allocator> {
     inner: B,
     requests: Requests,
 }
@@ -36,7 +35,7 @@ impl Requests {
 
 impl<B: Allocator> RefusingAllocator<B> {
     /// An allocator over `inner` in which the request with the index `refused` fails, or none.
-    pub fn new(inner: B, refused: Option<u64>) -> RefusingAllocator<B>
+    pub(crate) fn new(inner: B, refused: Option<u64>) -> RefusingAllocator<B>
         ensures inner { result.inner ≡ inner }
         ensures refused { result.requests.refused ≡ refused }
     {
@@ -51,12 +50,12 @@ impl<B: Allocator> RefusingAllocator<B> {
     }
 
     /// The number of requests so far.
-    pub fn requests(&self) -> u64 {
+    pub(crate) fn requests(&self) -> u64 {
         self.requests.made.load(Ordering::SeqCst)
     }
 
     /// The number of blocks in use, if the other allocator failed no request.
-    pub fn blocks(&self) -> u64 {
+    pub(crate) fn blocks(&self) -> u64 {
         let made = self.requests();
         let refused = match self.requests.refused {
             Some(index) => u64::from(made > index),
