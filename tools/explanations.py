@@ -3,13 +3,13 @@
 
   tools/explanations.py [--write]     --write puts the lists into the pages; without it a list that differs is an error
 
-The source is crates/explanations/src: the tables of texts, one text for each code, and OVERVIEW, one line for each code.
-A text has the forms of its error, a line each, then `Status N`, the meaning, an example and what to do. The script checks
-that each text has these parts and the status of its letter, that no line is longer than 80 columns, that the example's
-output occurs in a transcript, and that tables and OVERVIEW have the same codes in the same order. It compares limits
-that texts state (LIMITS) with the definitions that the code is proved to meet. The transcript of explanations follows
-advice, after a line `CODE: WORDS`; the script checks that the code's text advises these words. The lists in the pages
-are between two comments; the first of them names this script.
+The source is crates/command_line/src/explanations: the tables of texts, one text for each code, and OVERVIEW, one line
+for each code. A text has the forms of its error, a line each, then `Status N`, the meaning, an example and what to do.
+The script checks that each text has these parts and the status of its letter, that no line is longer than 80 columns,
+that the example's output occurs in a transcript, and that tables and OVERVIEW have the same codes in the same order. It
+compares limits that texts state (LIMITS) with the definitions that the code is proved to meet. The transcript of
+explanations follows advice, after a line `CODE: WORDS`; the script checks that the code's text advises these words. The
+lists in the pages are between two comments; the first of them names this script.
 """
 import argparse
 import glob
@@ -18,7 +18,7 @@ import re
 import sys
 
 ROOT = os.path.dirname(os.path.dirname(os.path.realpath(__file__)))
-SOURCES = f"{ROOT}/crates/explanations/src"
+SOURCES = f"{ROOT}/crates/command_line/src/explanations"
 TABLES = ["files", "jobs", "states", "gro_files", "energies", "codes", "runs"]
 ENTRY = re.compile(r'^    \(\n        "(\w+)",\n        "\\\n(.*?)",\n    \),$', re.MULTILINE | re.DOTALL)
 OVERVIEW = re.compile(r'OVERVIEW: &str = "\\\n(.*?)";\n', re.DOTALL)

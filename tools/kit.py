@@ -28,7 +28,7 @@ def module(name):
 
 def sums_once(rtlib):
     """Has the toolchain compute each crate's checksum once per question. `Crate.stamp` computes the checksums of all crates
-    below, and those of the crates below them, on each way down: 6,609 for one of `pairmd`, which has 36 crates below.
+    below, and those of the crates below them, on each way down: 6,607 for one of `pairmd`, which has 35 crates below.
     Nothing is remembered from one question to the next, so a file that changes in between is seen.
     """
     whole, known = rtlib.Crate.stamp, threading.local()

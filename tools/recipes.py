@@ -97,7 +97,8 @@ RECIPES = [
         begins="## A new command",
         ends="\n## ",
         neighbour=r"[cC]urv(?:e|ing)",
-        scope="crates/(?:cli|command_line)/",
+        # texts of errors name commands
+        scope="crates/(?:cli|command_line)/(?!src/explanations/)",
     ),
     Recipe(
         page="CONTRIBUTING.md",

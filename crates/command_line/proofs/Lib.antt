@@ -3,3 +3,4 @@ pub mod OneCommand
 pub mod CountLaws
 pub mod PartLaws
 pub mod SyntaxLaws
+pub mod Words

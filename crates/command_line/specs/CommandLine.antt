@@ -14,7 +14,7 @@ use Rattle.clap.specs.declared.error.kind.ErrorKind.{ErrorKind}
 use Rattle.clap.specs.declared.error.kind.ErrorKind.TheVariants.{DisplayHelp, DisplayVersion, InvalidValue}
 use Rattle.clap.specs.declared.builder.action.ArgAction.TheVariants.{Append, SetTrue}
 use Rattle.clap.specs.declared.builder.value_parser.ValueParser.TheVariants.{Signed, Unsigned}
-use Rattle.explanations.specs.Explanations.{code_in, text_for}
+use Rattle.command_line.specs.Explanations.{code_in, text_for}
 use Rattle.integrator.specs.declared.direction.Direction.{Direction}
 use Rattle.integrator.specs.declared.direction.Direction.TheVariants.{Forward, Back}
 use Rattle.command_line.specs.Commands.{Check, Code, CommandView, Curve, Each, Explain, Frame, Measure, Observe, Replay, Run, RunView, Start, States, Trajectory, VisitsView}

@@ -1,4 +1,5 @@
 pub mod CommandLine
 pub mod Commands
+pub mod Explanations
 pub mod Syntax
 pub mod Views

@@ -1,7 +1,7 @@
 //! The commands of the program.
 
 ghost use Rattle.std.specs.Prelude.{◌≡◌, ◌≤◌, ◌<◌, ◌^◌, Some, option_map};
-ghost use Rattle.explanations.specs.Explanations.{text_for};
+ghost use Rattle.command_line.specs.Explanations.{text_for};
 
 use integrator::Direction;
 

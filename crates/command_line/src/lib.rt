@@ -1,8 +1,10 @@
-//! The command line: the commands of the program, and which arguments name which command.
+//! The command line: the commands of the program, which arguments name which command, and the texts that `pairmd explain`
+//! prints.
 #![tactic(auto)]
 
 mod arguments;
 mod commands;
+mod explanations;
 mod misuses;
 mod parsing;
 mod parts;

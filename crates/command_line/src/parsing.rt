@@ -11,6 +11,7 @@ use crate::commands::{
     Check, Command, Curve, Each, EachOutput, Explain, Frame, Listing, MAX_POINTS, MAX_STEPS,
     MAX_WORKERS, Measured, Observe, Quantity, Replay, Run, Start, Table, Visits,
 };
+use crate::explanations::{code_among, explain};
 use crate::misuses::{unknown_code, unnamed};
 use crate::syntax::program;
 use crate::values::{
@@ -18,7 +19,6 @@ use crate::values::{
     types_of,
 };
 use clap::{ArgMatches, Error};
-use explanations::{code_among, explain};
 use integrator::Direction;
 use std::alloc::Global;
 use std::convert::AsStr;

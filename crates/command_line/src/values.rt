@@ -2,14 +2,14 @@
 
 ghost use Rattle.std.specs.Prelude.{◌≡◌, ◌≢◌, ◌∷◌, [], Bool, ℕ, ℤ, MatchOption, Option, codes, length, map, option_map};
 ghost use Rattle.clap.specs.Words.{Text, first_of, found_of, rows_of};
-ghost use Rattle.explanations.specs.Explanations.{code_in};
+ghost use Rattle.command_line.specs.Explanations.{code_in};
 ghost use Rattle.command_line.specs.CommandLine.{ACount, ACounter, AFlagUnless, ANumber, APart, IsGiven, Names, Says, WritesCounter, turned, values_of};
 ghost use Rattle.command_line.specs.Views.{names_of};
 
+use crate::explanations::code_in;
 use crate::parts::part_of_all;
 use crate::step_counts::step_count;
 use clap::ArgMatches;
-use explanations::code_in;
 use integrator::Direction;
 
 /// The value of the argument with this name, which is a path or another text, if it has one.

@@ -1,7 +1,7 @@
 use Rattle.std.proofs.Common.{◌∙◌, [], Option, List, ℕ, ap, codes, unwrap_or}
 use Rattle.clap.specs.Words.{found_of}
 use Rattle.clap.proofs.WalkLemmas.{raw_values-rows}
-use Rattle.explanations.specs.Explanations.{code_in}
+use Rattle.command_line.specs.Explanations.{code_in}
 use Rattle.command_line.proofs.values.code_of.Goals as goal
 
 -- the code in the values of an argument, if it has values

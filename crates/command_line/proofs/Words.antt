@@ -2,7 +2,7 @@
 use Rattle.std.proofs.Common.{◌≡◌, ◌≢◌, ◌==◌, ◌<◌, ◌+◌, ℕ, List, [], ◌∷◌, ◌++◌, Some, arith, false, find, get_or, length, refl, true}
 use Rattle.std.proofs.lemmas.Bool.Decides.{nat_tests}
 use Rattle.std.proofs.lemmas.Grind.{common_steps}
-use Rattle.explanations.specs.Explanations.{is_code_word, words_of}
+use Rattle.command_line.specs.Explanations.{is_code_word, words_of}
 
 -- the text has no space
 abbrev pub HasNoSpace : List ℕ → Type 0

@@ -4,14 +4,14 @@ use Rattle.std.specs.List.{slice_split}
 use Rattle.std.specs.Option.{option_or}
 use Rattle.std.specs.Borrow.{Bor}
 use Rattle.std.specs.Str.{bytes_eq, str_eq_ignore_ascii_case}
-use Rattle.explanations.specs.declared.codes.TheConstants.{CODES}
-use Rattle.explanations.specs.declared.energies.TheConstants.{ENERGIES}
-use Rattle.explanations.specs.declared.files.TheConstants.{FILES}
-use Rattle.explanations.specs.declared.gro_files.TheConstants.{GRO_FILES}
-use Rattle.explanations.specs.declared.jobs.TheConstants.{JOBS}
-use Rattle.explanations.specs.declared.overview.TheConstants.{OVERVIEW}
-use Rattle.explanations.specs.declared.runs.TheConstants.{RUNS}
-use Rattle.explanations.specs.declared.states.TheConstants.{STATES}
+use Rattle.command_line.specs.declared.explanations.codes.TheConstants.{CODES}
+use Rattle.command_line.specs.declared.explanations.energies.TheConstants.{ENERGIES}
+use Rattle.command_line.specs.declared.explanations.files.TheConstants.{FILES}
+use Rattle.command_line.specs.declared.explanations.gro_files.TheConstants.{GRO_FILES}
+use Rattle.command_line.specs.declared.explanations.jobs.TheConstants.{JOBS}
+use Rattle.command_line.specs.declared.explanations.overview.TheConstants.{OVERVIEW}
+use Rattle.command_line.specs.declared.explanations.runs.TheConstants.{RUNS}
+use Rattle.command_line.specs.declared.explanations.states.TheConstants.{STATES}
 
 -- ---- the explanation for a code
 

@@ -1,7 +1,7 @@
 -- The words that are left name the code that all the words name.
 use Rattle.std.proofs.Common.{◌≡◌, length, map}
-use Rattle.explanations.specs.Explanations.{code_in}
-use Rattle.explanations.proofs.explaining.code_among.Given as goal
+use Rattle.command_line.specs.Explanations.{code_in}
+use Rattle.command_line.proofs.explanations.code_among.Given as goal
 
 abbrev pub invariant-loop-words : goal.invariant-loop-words
 invariant-loop-words g l = code_in (map g.S.AsStr.text l.words) ≡ code_in (map g.S.AsStr.text l.fn.words)

@@ -1,9 +1,9 @@
 use Rattle.std.proofs.Common.{◌∙◌, [], Some, None, ap, arith, find, rules, sym}
 use Rattle.std.proofs.lemmas.Str.Pattern.{split_parts}
 use Rattle.std.specs.Str.{IsUtf8}
-use Rattle.explanations.specs.Explanations.{is_code_word, words_of}
-use Rattle.explanations.proofs.Words.{code_first, code_later, first_word, one_word}
-use Rattle.explanations.proofs.explaining.code_of.Goals as goal
+use Rattle.command_line.specs.Explanations.{is_code_word, words_of}
+use Rattle.command_line.proofs.Words.{code_first, code_later, first_word, one_word}
+use Rattle.command_line.proofs.explanations.code_of.Goals as goal
 
 pub returns-then-is_code_word : goal.returns-then-is_code_word
 returns-then-is_code_word c =

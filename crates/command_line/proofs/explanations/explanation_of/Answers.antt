@@ -1,7 +1,7 @@
 use Rattle.std.proofs.Common.{◌≡◌, ℕ, List, Bor, Option, Some, None, option_map, refl}
 use Rattle.std.specs.Option.{option_or}
-use Rattle.explanations.specs.Explanations.{explanation_of}
-use Rattle.explanations.proofs.explaining.explanation_of.Goals as goal
+use Rattle.command_line.specs.Explanations.{explanation_of}
+use Rattle.command_line.proofs.explanations.explanation_of.Goals as goal
 
 -- the first of two texts, by their values
 or_value : {T U : Type 0} (f : T → U) (a b o : Option T) (x y : Option U) → o ≡ option_or a b → option_map f a ≡ x → option_map f b ≡ y → option_map f o ≡ option_or x y

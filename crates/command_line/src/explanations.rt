@@ -1,24 +1,34 @@
-//! The text that `pairmd explain` prints, and the code that its arguments name.
+//! The text that `pairmd explain` prints, and the code that its arguments name. The texts are in tables: an explanation
+//! of each error, with an example and a remedy, and an overview of all codes.
 
 ghost use Rattle.std.specs.Prelude.{◌≡◌, find, map, option_map};
-ghost use Rattle.explanations.specs.Explanations.{code_in, explanation_of, is_code_word, rows_of, text_for, text_in, words_of};
+ghost use Rattle.command_line.specs.Explanations.{code_in, explanation_of, is_code_word, rows_of, text_for, text_in, words_of};
 ghost use Rattle.std.specs.Str.{str_eq_ignore_ascii_case};
 
-use crate::codes::CODES;
-use crate::energies::ENERGIES;
-use crate::files::FILES;
-use crate::gro_files::GRO_FILES;
-use crate::jobs::JOBS;
-use crate::overview::OVERVIEW;
-use crate::runs::RUNS;
-use crate::states::STATES;
+mod codes;
+mod energies;
+mod files;
+mod gro_files;
+mod jobs;
+mod overview;
+mod runs;
+mod states;
+
+use crate::explanations::codes::CODES;
+use crate::explanations::energies::ENERGIES;
+use crate::explanations::files::FILES;
+use crate::explanations::gro_files::GRO_FILES;
+use crate::explanations::jobs::JOBS;
+use crate::explanations::overview::OVERVIEW;
+use crate::explanations::runs::RUNS;
+use crate::explanations::states::STATES;
 use std::convert::AsStr;
 
 /// The text for a code: its explanation, if the code exists. Without a code it is the overview of all codes.
 ///
 /// An explanation has the form of the error, its exit status, its meaning, an example and a remedy, in lines of at most
 /// 80 columns.
-pub fn explain(code: Option<&str>) -> Option<&'static str>
+pub(crate) fn explain(code: Option<&str>) -> Option<&'static str>
     ensures { option_map (λ text. text.now) result ≡ text_for (option_map (λ code. code.now) code.entry) }
 {
     match code {
@@ -30,7 +40,7 @@ pub fn explain(code: Option<&str>) -> Option<&'static str>
 /// The code that the arguments of `explain` name: their first word except `pairmd:`, with which an error begins.
 ///
 /// Words are separated by spaces, so a whole error may come as one argument or as several.
-pub fn code_in<'a>(mut arguments: &[&'a str]) -> Option<&'a str>
+pub(crate) fn code_in<'a>(mut arguments: &[&'a str]) -> Option<&'a str>
     ensures { option_map (λ code. code.now) result ≡ code_in (map (λ argument. argument.now) arguments.entry.now) }
 {
     while let [argument, rest @ ..] = arguments {
@@ -44,7 +54,7 @@ pub fn code_in<'a>(mut arguments: &[&'a str]) -> Option<&'a str>
 }
 
 /// The code that these words name as arguments of `explain`, as [`code_in`] reads them.
-pub fn code_among<'a, S: AsStr>(mut words: &'a [S]) -> Option<&'a str>
+pub(crate) fn code_among<'a, S: AsStr>(mut words: &'a [S]) -> Option<&'a str>
     ensures { option_map (λ code. code.now) result ≡ code_in (map S.text words.entry.now) }
 {
     while let [word, rest @ ..] = words {
