@@ -1,5 +1,5 @@
-//! The command line: the commands of the program, which arguments name which command, and the texts that `pairmd explain`
-//! prints.
+//! The command line: the commands of the program, which arguments name which command, and the texts that
+//! `pairmd explain` prints.
 #![tactic(auto)]
 
 mod arguments;
