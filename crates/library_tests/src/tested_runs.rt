@@ -3,9 +3,9 @@
 use crate::fixtures::{JOB, STATE};
 use fallible::Collected;
 use integrator::Direction;
+use run_laws::{TestedRunFault, run_bytes_checked};
 use std::alloc::{AllocError, Global};
 use std::test::*;
-use tested_run::{TestedRunFault, run_bytes_checked};
 
 /// The line of the error with which one tested step ends; `None` if it ends otherwise.
 fn line_of(

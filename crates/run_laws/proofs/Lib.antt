@@ -18,3 +18,12 @@ pub mod ReadSlopes
 pub mod SymmetryLemmas
 pub mod TranslationLaws
 pub mod AxisLaws
+pub mod RunLaws
+pub mod PairLemmas
+pub mod AddingLaws
+pub mod BoundLaws
+pub mod OutcomeLaws
+pub mod PlainLaws
+pub mod StopLaws
+pub mod RefusalLaws
+pub mod SomeStart

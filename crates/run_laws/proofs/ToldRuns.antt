@@ -23,9 +23,9 @@ use Rattle.line_text.proofs.StepLaws.{same_ok}
 use Rattle.line_text.proofs.Items.{parts_same}
 use Rattle.integrator.proofs.ReturnLaws.{system_parts}
 use Rattle.integrator.proofs.StartLaws.{system_made, typed}
-use Rattle.tested_run.specs.Runs.{IsRun}
-use Rattle.tested_run.specs.Starts.{plain, start_at}
-use Rattle.tested_run.proofs.RunLaws.{are_read, parts_of, started}
+use Rattle.run_laws.specs.Runs.{IsRun}
+use Rattle.run_laws.specs.Starts.{plain, start_at}
+use Rattle.run_laws.proofs.RunLaws.{are_read, parts_of, started}
 use Rattle.engine.specs.Engines.{EngineView, Advanced}
 use Rattle.engine.specs.RunSpecification.{HasRoom, IsLevesqueVerletRun, IsTextOf, box_of}
 use Rattle.engine.proofs.EngineLaws.{job_tree_is}

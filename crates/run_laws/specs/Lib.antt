@@ -6,3 +6,11 @@ pub mod AtomSums
 pub mod Momentum
 pub mod Motions
 pub mod Symmetries
+pub mod Outcomes
+pub mod SlopeBounds
+pub mod Adding
+pub mod Stops
+pub mod Starts
+pub mod Runs
+pub mod TestedStarts
+pub mod Refusals

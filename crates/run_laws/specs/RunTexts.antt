@@ -11,8 +11,8 @@ use Rattle.engine.specs.RunSpecification.{IsLevesqueVerletRun}
 use Rattle.engine.specs.declared.faults.InputFault.{InputFault}
 use Rattle.runs.specs.Unwritten.{IsRunUnwritten, IsResourceFault}
 use Rattle.runs.specs.declared.faults.RunFault.{RunFault}
-use Rattle.tested_run.specs.Runs.{IsRun}
-use Rattle.tested_run.specs.Starts.{plain}
+use Rattle.run_laws.specs.Runs.{IsRun}
+use Rattle.run_laws.specs.Starts.{plain}
 
 -- The state that a run writes is safe under its job if the starting state is: the code is certified for further steps
 -- in both directions.

@@ -1,6 +1,6 @@
 use Rattle.engine.proofs.SpecifiedRuns.{leads_back}
-use Rattle.tested_run.specs.Starts.{plain}
-use Rattle.tested_run.proofs.RunLaws.{run_back}
+use Rattle.run_laws.specs.Starts.{plain}
+use Rattle.run_laws.proofs.RunLaws.{run_back}
 use Rattle.run_laws.proofs.run_texts.runs_return.Goals as goal
 
 pub returns-clause-leads_back : goal.returns-clause-leads_back

@@ -1,9 +1,0 @@
-pub mod RunLaws
-pub mod PairLemmas
-pub mod AddingLaws
-pub mod BoundLaws
-pub mod OutcomeLaws
-pub mod PlainLaws
-pub mod StopLaws
-pub mod RefusalLaws
-pub mod SomeStart

@@ -1,7 +1,0 @@
-use Rattle.tested_run.proofs.runs.frames_after.Goals as goal
-
-pub returns-in-Ok-clause-value : goal.returns-in-Ok-clause-value
-returns-in-Ok-clause-value g c = rw (← c.in_ok-frames.ensures.value) c.in-Ok.ensures.value
-
-pub returns-in-Err-clause-stops : goal.returns-in-Err-clause-stops
-returns-in-Err-clause-stops g c = rw (← c.in_ok-frames.ensures.value) c.in-Err.ensures.fault
