@@ -1,12 +1,22 @@
--- A bound is above four times the greater of two others if it is above four times each.
-use Rattle.std.proofs.Common.{◌≡◌, ◌∙◌, ◌&&◌, ◌*◌, ℕ, ℤ, Bool, true, false, List, Option, Some, None, max, nat_lt, refl, sym, ap, arith}
+-- Distances beside a range, and a bound above four times the greater of two others: it is above four times each.
+use Rattle.std.proofs.Common.{◌≡◌, ◌∙◌, ◌&&◌, ◌*◌, ◌+ℤ◌, ◌-ℤ◌, ◌≤ℤ◌, pos, ℕ, ℤ, Bool, true, false, List, Option, Some, None, max, nat_lt, refl, sym, ap, arith}
+use Rattle.std.specs.Int.{int_max, int_min}
 use Rattle.std.proofs.lemmas.Bool.Decides.{nat_tests}
+use Rattle.std.proofs.lemmas.Int.{clamps, ints}
 use Rattle.energy_program.specs.Programs.{Trees}
 use Rattle.fixed.specs.declared.constants.Constant.{Constant}
 use Rattle.interval_domain.specs.Ranges.{Range}
 use Rattle.curves.specs.Slices.{BoundsView, above, below, bounds_at, bounds_on, greater_bound, greater_bounds, in_column, is_local, is_local_on}
 use Rattle.curves.specs.declared.slices.Column.{Column}
 use Rattle.curves.specs.declared.slices.Column.TheVariants.{Energy, Slope}
+
+-- a number above another, but at most the end, is no less than the other
+pub least_above : (high at : ℤ) (more : ℕ) → at ≤ℤ high → at ≤ℤ int_min high (at +ℤ pos more)
+least_above high at more l = omega (arith, ints, clamps)
+
+-- a number below another, but at least the start, is no greater than the other
+pub greatest_below : (low at : ℤ) (less : ℕ) → low ≤ℤ at → int_max low (at -ℤ pos less) ≤ℤ at
+greatest_below low at less l = omega (arith, ints, clamps)
 
 never_both : (t : Bool) → (t && false) ≡ false
 never_both true = refl

@@ -170,15 +170,15 @@ AreOfWorst column parts bound r = (number : ℕ) × (worst : Part) × IsWorst co
 -- ---- jumps
 
 -- of each column, whether it has a property
-pub record FlagsView : Type 0 where
+pub record ColumnFlagsView : Type 0 where
   pub energy : Bool
   pub slope : Bool
 
-abbrev pub flags : (energy slope : Bool) → FlagsView
-flags energy slope = record { energy = energy; slope = slope }
+abbrev pub column_flags : (energy slope : Bool) → ColumnFlagsView
+column_flags energy slope = record { energy = energy; slope = slope }
 
 -- whether a column has the property
-abbrev pub flag_of : Column → FlagsView → Bool
+abbrev pub flag_of : Column → ColumnFlagsView → Bool
 flag_of Energy f = f.energy
 flag_of Slope f = f.slope
 

@@ -9,7 +9,7 @@ ghost use Rattle.curves.specs.Slices as slices;
 ghost use Rattle.curves.specs.Slices.{flag_of, in_column};
 ghost use Rattle.curves.specs.declared.slices.Column.{Column};
 
-use crate::slices::{Bounds, Flags, PairFormula};
+use crate::slices::{Bounds, ColumnFlags, PairFormula};
 use fixed::Fx;
 use interval_domain::Span;
 use std::alloc::{AllocError, Allocator};
@@ -34,11 +34,8 @@ fn up_to(high: Fx, at: Fx, more: u32) -> Fx
     ensures value { result ≡ int_min high (at +ℤ pos more) }
     ensures ordered { at ≤ℤ high → at ≤ℤ result }
 {
-    if i128::from(high.raw()) - i128::from(at.raw()) <= i128::from(more) {
-        high
-    } else {
-        Fx::from_raw(at.raw() + i64::from(more))
-    }
+    let above = i128::from(at.raw()) + i128::from(more);
+    Fx::from_raw(i128::from(high.raw()).min(above) as i64)
 }
 
 // The distance that is `less` below another, or `low` if it is greater.
@@ -46,11 +43,8 @@ fn down_to(low: Fx, at: Fx, less: u32) -> Fx
     ensures value { result ≡ int_max low (at -ℤ pos less) }
     ensures ordered { low ≤ℤ at → result ≤ℤ at }
 {
-    if i128::from(at.raw()) - i128::from(low.raw()) <= i128::from(less) {
-        low
-    } else {
-        Fx::from_raw(at.raw() - i64::from(less))
-    }
+    let below = i128::from(at.raw()) - i128::from(less);
+    Fx::from_raw(i128::from(low.raw()).max(below) as i64)
 }
 
 // The first 16 distances of a range.
@@ -74,37 +68,37 @@ fn back_of(range: &Span) -> Span
 }
 
 // Of each column, whether a bound is above four times the bound beside it.
-fn are_local(bounds: &Bounds, beside: &Bounds) -> Flags
+fn are_local(bounds: &Bounds, beside: &Bounds) -> ColumnFlags
     ensures { (column : Column) → flag_of column result ≡ slices.is_local (in_column column bounds.now) (in_column column beside.now) }
 {
-    Flags {
+    ColumnFlags {
         energy: is_local(bounds.energy, beside.energy),
         slope: is_local(bounds.slope, beside.slope),
     }
 }
 
 // Whether no column has the property.
-fn is_none(flags: &Flags) -> bool
+fn is_none(flags: &ColumnFlags) -> bool
     ensures { IsTrue result → (column : Column) → flag_of column flags.now ≡ false }
 {
     !flags.energy && !flags.slope
 }
 
 // Of each column, whether it has both properties.
-fn both(first: &Flags, second: &Flags) -> Flags
+fn both(first: &ColumnFlags, second: &ColumnFlags) -> ColumnFlags
     ensures { (column : Column) → flag_of column result ≡ (flag_of column first.now && flag_of column second.now) }
 {
-    Flags {
+    ColumnFlags {
         energy: first.energy && second.energy,
         slope: first.slope && second.slope,
     }
 }
 
 // Of each column, whether it has one of these properties.
-fn either(first: &Flags, second: &Flags) -> Flags
+fn either(first: &ColumnFlags, second: &ColumnFlags) -> ColumnFlags
     ensures { (column : Column) → flag_of column result ≡ (flag_of column first.now || flag_of column second.now) }
 {
-    Flags {
+    ColumnFlags {
         energy: first.energy || second.energy,
         slope: first.slope || second.slope,
     }
@@ -113,7 +107,7 @@ fn either(first: &Flags, second: &Flags) -> Flags
 impl<'a, A: Allocator + Copy> PairFormula<'a, A> {
     // Of each column, whether its bound on a range is above four times the greatest of the bounds beside it. Most bounds
     // aren't above four times the bound at the distance below, and then the bound at the distance above isn't needed.
-    fn are_local_on(&self, domain: &Span, range: Span) -> Result<Flags, AllocError>
+    fn are_local_on(&self, domain: &Span, range: Span) -> Result<ColumnFlags, AllocError>
         ensures { (program : Trees) → self.now.formula.now ≡ formula_of program → IfOk result (λ f. (column : Column)
             → flag_of column f ≡ slices.is_local_on (bits_of self.now.frac) program self.now.others.now (span_range domain.now) column
             (span_range range)) }
@@ -131,7 +125,7 @@ impl<'a, A: Allocator + Copy> PairFormula<'a, A> {
     }
 
     /// Of each column, whether it jumps in this range, if this is its worst part.
-    pub(crate) fn jumps_over(&self, domain: &Span, range: &Span) -> Result<Flags, AllocError>
+    pub(crate) fn jumps_over(&self, domain: &Span, range: &Span) -> Result<ColumnFlags, AllocError>
         ensures { (program : Trees) → self.now.formula.now ≡ formula_of program → IfOk result (λ f. (column : Column)
             → flag_of column f ≡ slices.jumps_over (bits_of self.now.frac) program self.now.others.now (span_range domain.now) column
             (span_range range.now)) }

@@ -1,5 +1,5 @@
 //! Rows of a table: the potential at a distance as it is computed, and bounds on its errors up to the next row.
-ghost use Rattle.std.specs.Prelude.{◌≡◌, ◌&&◌, ◌≤◌, ◌<◌, ◌*◌, ◌/◌, ◌++◌, IfOk, IsTrue, length, pos, unsigned_abs, ◌+ℤ◌, ◌-ℤ◌, ◌≤ℤ◌, ◌<ℤ◌};
+ghost use Rattle.std.specs.Prelude.{◌≡◌, ◌&&◌, ◌≤◌, ◌<◌, ◌*◌, ◌/◌, IfOk, IsTrue, length, pos, unsigned_abs, ◌+ℤ◌, ◌-ℤ◌, ◌≤ℤ◌, ◌<ℤ◌};
 ghost use Rattle.std.specs.Int.{int_max};
 ghost use Rattle.fixed.specs.Fractions.{bits_of};
 ghost use Rattle.job.specs.Views.{job_value};
@@ -15,7 +15,7 @@ ghost use Rattle.curves.specs.Tables.{IsGridOf, IsRow, all_distances, distance_o
 use crate::grids::grid_at;
 use crate::pairs::Pair;
 use crate::planned::PlannedTables;
-use crate::slices::{Column, Flags, PairFormula, WorstPart, WorstParts};
+use crate::slices::{Column, ColumnFlags, PairFormula, WorstPart, WorstParts};
 use curve_lines::{Row, is_large};
 use fixed::Fx;
 use formula_bounds::Formula;
@@ -127,7 +127,7 @@ impl<'a, A: Allocator + Copy> PlannedTables<'a, A> {
     }
 
     // Of each column, whether it jumps in this range, if this is its worst part.
-    fn jumps_in(&self, pair: &Pair<A>, range: Span) -> Result<Flags, AllocError>
+    fn jumps_in(&self, pair: &Pair<A>, range: Span) -> Result<ColumnFlags, AllocError>
         requires is { IsPlanned self.now }
         ensures { IfOk result (λ f. (column : Column) → flag_of column f ≡ jumps_over (bits_of self.now.job.now.frac) (program_of self.now)
             pair.now.others.items (all_distances (job_of self.now)) column (span_range range)) }
@@ -165,7 +165,7 @@ impl<'a, A: Allocator + Copy> PlannedTables<'a, A> {
         energy: Fx,
         slope: Fx,
         worst: &WorstParts,
-    ) -> Result<Flags, AllocError>
+    ) -> Result<ColumnFlags, AllocError>
         requires is { IsPlanned self.now }
         ensures energy { IfOk result (λ f. f.energy ≡ (rows.is_large energy worst.now.energy.bound
             && jumps_over (bits_of self.now.job.now.frac) (program_of self.now) pair.now.others.items (all_distances (job_of self.now))
@@ -183,7 +183,7 @@ impl<'a, A: Allocator + Copy> PlannedTables<'a, A> {
         } else {
             let energy = self.is_jump(pair, Column::Energy, energy, worst.energy)?;
             let slope = self.is_jump(pair, Column::Slope, slope, worst.slope)?;
-            Ok(Flags { energy, slope })
+            Ok(ColumnFlags { energy, slope })
         }
     }
 

@@ -123,22 +123,22 @@ pub(crate) struct WorstParts {
 
 /// Of each column, whether it has a property.
 #[derive(Drop)]
-pub(crate) struct Flags {
+pub(crate) struct ColumnFlags {
     /// Whether the energy has it.
     pub(crate) energy: bool,
     /// Whether the slope has it.
     pub(crate) slope: bool,
 }
 
-impl Model for Flags {
+impl Model for ColumnFlags {
     ghost use Rattle.curves.specs.Slices as slices;
 
-    ghost Value = { slices.FlagsView };
+    ghost Value = { slices.ColumnFlagsView };
 
-    ghost view = { λ f. slices.flags f.energy f.slope };
+    ghost view = { λ f. slices.column_flags f.energy f.slope };
 }
 
-impl Flags {
+impl ColumnFlags {
     /// Whether a column has the property.
     pub(crate) fn of(&self, column: Column) -> bool
         ensures { result ≡ flag_of column self.now }

@@ -61,21 +61,21 @@ fn name_of<A: Allocator>(job: &Job<A>, number: u32) -> Name
 pub(crate) fn put_pair<A: Allocator>(
     text: &mut Vec<u8, A>,
     job: &Job<A>,
-    a: u32,
-    b: u32,
+    first_type: u32,
+    second_type: u32,
 ) -> Result<(), AllocError>
-    requires first { a < length job.now.types.items }
-    requires second { b < length job.now.types.items }
-    ensures { IfOk result (λ _. text.new.items ≡ text.old.items ++ pair_line (job_value job.now) a b) }
+    requires first { first_type < length job.now.types.items }
+    requires second { second_type < length job.now.types.items }
+    ensures { IfOk result (λ _. text.new.items ≡ text.old.items ++ pair_line (job_value job.now) first_type second_type) }
 {
-    put_names(text, name_of(job, a), name_of(job, b))
+    put_names(text, name_of(job, first_type), name_of(job, second_type))
 }
 
 /// The text before the tables of a type with itself: two empty lines, but none before the first table.
-pub(crate) fn separator_of(a: u32) -> &'static [u8]
-    ensures { result.now ≡ separator a }
+pub(crate) fn separator_of(first_type: u32) -> &'static [u8]
+    ensures { result.now ≡ separator first_type }
 {
-    if a == 0 { b"" } else { BETWEEN_TABLES }
+    if first_type == 0 { b"" } else { BETWEEN_TABLES }
 }
 
 impl<'a, A: Allocator + Copy> PlannedTables<'a, A> {
@@ -101,32 +101,38 @@ impl<'a, A: Allocator + Copy> PlannedTables<'a, A> {
     /// The text of the body of the table of two types. Reports each row.
     pub(crate) fn body_text<W: Progress>(
         &self,
-        a: u32,
-        b: u32,
+        first_type: u32,
+        second_type: u32,
         watch: &mut W,
     ) -> Result<Vec<u8, A>, AllocError>
         requires is { IsPlanned self.now }
-        requires first { a < length self.now.job.now.types.items }
-        requires second { b < length self.now.job.now.types.items }
-        ensures body { IfOk result (λ text. IsTableBody (job_of self.now) (program_of self.now) self.now.plan.now a b text.items) }
+        requires first { first_type < length self.now.job.now.types.items }
+        requires second { second_type < length self.now.job.now.types.items }
+        ensures body { IfOk result (λ text.
+            IsTableBody (job_of self.now) (program_of self.now) self.now.plan.now first_type second_type text.items) }
         ensures passed { OnOk result (W.passed watch.old watch.new (self.now.plan.now.points + 1)) }
         ensures stopped { IfErr result (λ _. (n : ℕ) × (n ≤ self.now.plan.now.points + 1) × W.passed watch.old watch.new n) }
     {
-        let pair = Pair::new(self.alloc, self.job, a, b)?;
+        let pair = Pair::new(self.alloc, self.job, first_type, second_type)?;
         let body = self.body_of(&pair, watch)?;
         body.into_text()
     }
 
     /// The lines before the body of the table of two types, behind another text.
-    pub(crate) fn head_of(&self, before: &[u8], a: u32, b: u32) -> Result<Vec<u8, A>, AllocError>
-        requires first { a < length self.now.job.now.types.items }
-        requires second { b < length self.now.job.now.types.items }
+    pub(crate) fn head_of(
+        &self,
+        before: &[u8],
+        first_type: u32,
+        second_type: u32,
+    ) -> Result<Vec<u8, A>, AllocError>
+        requires first { first_type < length self.now.job.now.types.items }
+        requires second { second_type < length self.now.job.now.types.items }
         ensures { IfOk result (λ head. head.items
-            ≡ before.now ++ (pair_line (job_of self.now) a b ++ columns_text self.now.plan.now.columns)) }
+            ≡ before.now ++ (pair_line (job_of self.now) first_type second_type ++ columns_text self.now.plan.now.columns)) }
     {
         let mut head = Vec::new(self.alloc);
         head.extend_from_slice(before)?;
-        put_pair(&mut head, self.job, a, b)?;
+        put_pair(&mut head, self.job, first_type, second_type)?;
         head.extend_from_slice(column_names(self.plan.columns))?;
         Ok(head)
     }

@@ -1,9 +1,10 @@
 //! Writing the tables of `curve`: for each pair of types, or for one pair. The tables of two types are written as soon as
 //! both bodies are there, so no more than two bodies are in memory.
-ghost use Rattle.std.specs.Prelude.{◌≡◌, ◌<◌, ◌≤◌, ◌+◌, ◌-◌, ◌*◌, ◌^◌, ◌++◌, ℕ, List, IfErr, IfOk, OnOk, length};
+ghost use Rattle.std.specs.Prelude.{◌≡◌, ◌<◌, ◌+◌, ◌-◌, ◌*◌, ◌^◌, ◌++◌, ℕ, List, IfErr, OnOk, length};
 ghost use Rattle.energy_program.specs.Programs.{Trees};
 ghost use Rattle.fallible.specs.Out.{Appends, Output, Writes};
 ghost use Rattle.job.specs.Views.{job_value};
+ghost use Rattle.potential.specs.Progress.{slices_of};
 ghost use Rattle.curves.specs.SoFar.{IsPlanned, PutsSome, PutsText, WroteTables, job_of, program_of};
 ghost use Rattle.curves.specs.Tables.{AreBothTables, AreTablesOf, IsCurve, IsPairOf, IsTable, IsTableBody, between_tables, curve_parts, pair_line, table_count, table_text};
 ghost use Rattle.curves.specs.Writing.{AreCut, AreCutOf, IsCurveUnwritten, StopsAt, WroteSome, rows_before};
@@ -49,17 +50,17 @@ impl<'a, A: Allocator + Copy> PlannedTables<'a, A> {
         &self,
         out: &mut O,
         before: &[u8],
-        a: u32,
-        b: u32,
+        first_type: u32,
+        second_type: u32,
         body: &[u8],
     ) -> Result<(), Failure<OutFault>>
         requires room { (O.output out.old).failed < 2 ^ 64 - 1 }
-        requires first { a < length self.now.job.now.types.items }
-        requires second { b < length self.now.job.now.types.items }
-        ensures { PutsText (before.now ++ table_text (job_of self.now) self.now.plan.now a b body.now)
+        requires first { first_type < length self.now.job.now.types.items }
+        requires second { second_type < length self.now.job.now.types.items }
+        ensures { PutsText (before.now ++ table_text (job_of self.now) self.now.plan.now first_type second_type body.now)
             (O.output out.old) (O.output out.new) result }
     {
-        let head = self.head_of(before, a, b)?;
+        let head = self.head_of(before, first_type, second_type)?;
         without_memory(write_both(out, &head, body))
     }
 
@@ -67,21 +68,21 @@ impl<'a, A: Allocator + Copy> PlannedTables<'a, A> {
     fn put_in_one<O: Out>(
         &self,
         out: &mut O,
-        a: u32,
-        b: u32,
+        first_type: u32,
+        second_type: u32,
         body: &[u8],
     ) -> Result<(), Failure<OutFault>>
         requires room { (O.output out.old).failed < 2 ^ 64 - 1 }
-        requires first { a < length self.now.job.now.types.items }
-        requires second { b < length self.now.job.now.types.items }
-        ensures { PutsText (between_tables ++ (pair_line (job_of self.now) a b
-            ++ table_text (job_of self.now) self.now.plan.now b a body.now))
+        requires first { first_type < length self.now.job.now.types.items }
+        requires second { second_type < length self.now.job.now.types.items }
+        ensures { PutsText (between_tables ++ (pair_line (job_of self.now) first_type second_type
+            ++ table_text (job_of self.now) self.now.plan.now second_type first_type body.now))
             (O.output out.old) (O.output out.new) result }
     {
         let mut before = Vec::new(self.alloc);
         before.extend_from_slice(BETWEEN_TABLES)?;
-        put_pair(&mut before, self.job, a, b)?;
-        self.put_table(out, &before, b, a, body)
+        put_pair(&mut before, self.job, first_type, second_type)?;
+        self.put_table(out, &before, second_type, first_type, body)
     }
 
     // Writes the table of two types and the table of the same types in the other order, each after two empty lines.
@@ -89,45 +90,45 @@ impl<'a, A: Allocator + Copy> PlannedTables<'a, A> {
     fn put_in_two<O: Out>(
         &self,
         out: &mut O,
-        a: u32,
-        b: u32,
-        first: &[u8],
-        second: &[u8],
+        first_type: u32,
+        second_type: u32,
+        one_body: &[u8],
+        other_body: &[u8],
     ) -> Result<(), Failure<OutFault>>
         requires room { (O.output out.old).failed < 2 ^ 64 - 1 }
-        requires first { a < length self.now.job.now.types.items }
-        requires second { b < length self.now.job.now.types.items }
-        ensures { PutsText (between_tables ++ (table_text (job_of self.now) self.now.plan.now a b first.now
-            ++ (between_tables ++ table_text (job_of self.now) self.now.plan.now b a second.now)))
+        requires first { first_type < length self.now.job.now.types.items }
+        requires second { second_type < length self.now.job.now.types.items }
+        ensures { PutsText (between_tables ++ (table_text (job_of self.now) self.now.plan.now first_type second_type one_body.now
+            ++ (between_tables ++ table_text (job_of self.now) self.now.plan.now second_type first_type other_body.now)))
             (O.output out.old) (O.output out.new) result }
     {
-        let head = self.head_of(BETWEEN_TABLES, a, b)?;
-        let next_head = self.head_of(BETWEEN_TABLES, b, a)?;
-        without_memory(write_two(out, &head, first, &next_head, second))
+        let head = self.head_of(BETWEEN_TABLES, first_type, second_type)?;
+        let next_head = self.head_of(BETWEEN_TABLES, second_type, first_type)?;
+        without_memory(write_two(out, &head, one_body, &next_head, other_body))
     }
 
-    // Writes the tables of two types, and of the same types in the other order, behind two empty lines. They have these
+    // Writes the tables of two types, and of the same types in the other order, after two empty lines. They have these
     // bodies. One table has the names of both pairs if the bodies are the same.
     fn put_bodies<O: Out>(
         &self,
         out: &mut O,
-        a: u32,
-        b: u32,
-        first: &[u8],
-        second: &[u8],
+        first_type: u32,
+        second_type: u32,
+        one_body: &[u8],
+        other_body: &[u8],
     ) -> Result<(), Failure<OutFault>>
         requires room { (O.output out.old).failed < 2 ^ 64 - 1 }
-        requires first { a < length self.now.job.now.types.items }
-        requires second { b < length self.now.job.now.types.items }
-        ensures { (program : Trees) → IsTableBody (job_of self.now) program self.now.plan.now a b first.now
-            → IsTableBody (job_of self.now) program self.now.plan.now b a second.now
-            → PutsSome (λ text. (tables : List ℕ) × AreBothTables (job_of self.now) program self.now.plan.now a b tables
+        requires first { first_type < length self.now.job.now.types.items }
+        requires second { second_type < length self.now.job.now.types.items }
+        ensures { (program : Trees) → IsTableBody (job_of self.now) program self.now.plan.now first_type second_type one_body.now
+            → IsTableBody (job_of self.now) program self.now.plan.now second_type first_type other_body.now
+            → PutsSome (λ text. (tables : List ℕ) × AreBothTables (job_of self.now) program self.now.plan.now first_type second_type tables
             × (text ≡ between_tables ++ tables)) (O.output out.old) (O.output out.new) result }
     {
-        if first == second {
-            self.put_in_one(out, a, b, first)
+        if one_body == other_body {
+            self.put_in_one(out, first_type, second_type, one_body)
         } else {
-            self.put_in_two(out, a, b, first, second)
+            self.put_in_two(out, first_type, second_type, one_body, other_body)
         }
     }
 
@@ -135,24 +136,25 @@ impl<'a, A: Allocator + Copy> PlannedTables<'a, A> {
     fn put_both<O: Out, W: Progress>(
         &self,
         out: &mut O,
-        a: u32,
-        b: u32,
+        first_type: u32,
+        second_type: u32,
         watch: &mut W,
     ) -> Result<(), Failure<OutFault>>
         requires room { (O.output out.old).failed < 2 ^ 64 - 1 }
         requires is { IsPlanned self.now }
-        requires first { a < length self.now.job.now.types.items }
-        requires second { b < length self.now.job.now.types.items }
+        requires first { first_type < length self.now.job.now.types.items }
+        requires second { second_type < length self.now.job.now.types.items }
         ensures tables { PutsSome (λ text. (tables : List ℕ)
-            × AreBothTables (job_of self.now) (program_of self.now) self.now.plan.now a b tables × (text ≡ between_tables ++ tables))
+            × AreBothTables (job_of self.now) (program_of self.now) self.now.plan.now first_type second_type tables
+            × (text ≡ between_tables ++ tables))
             (O.output out.old) (O.output out.new) result }
         ensures passed { OnOk result (W.passed watch.old watch.new (2 * (self.now.plan.now.points + 1))) }
         ensures stopped { IfErr result (λ f. (n : ℕ)
             × StopsAt 0 (2 * (self.now.plan.now.points + 1)) f n × W.passed watch.old watch.new n) }
     {
-        let first = self.body_text(a, b, watch)?;
-        let second = self.body_text(b, a, watch)?;
-        self.put_bodies(out, a, b, &first, &second)
+        let one_body = self.body_text(first_type, second_type, watch)?;
+        let other_body = self.body_text(second_type, first_type, watch)?;
+        self.put_bodies(out, first_type, second_type, &one_body, &other_body)
     }
 
     // Writes the table of two types behind another text. Reports each row.
@@ -160,22 +162,22 @@ impl<'a, A: Allocator + Copy> PlannedTables<'a, A> {
         &self,
         out: &mut O,
         before: &[u8],
-        a: u32,
-        b: u32,
+        first_type: u32,
+        second_type: u32,
         watch: &mut W,
     ) -> Result<(), Failure<OutFault>>
         requires room { (O.output out.old).failed < 2 ^ 64 - 1 }
         requires is { IsPlanned self.now }
-        requires first { a < length self.now.job.now.types.items }
-        requires second { b < length self.now.job.now.types.items }
+        requires first { first_type < length self.now.job.now.types.items }
+        requires second { second_type < length self.now.job.now.types.items }
         ensures table { PutsSome (λ text. (table : List ℕ)
-            × IsTable (job_of self.now) (program_of self.now) self.now.plan.now a b table × (text ≡ before.now ++ table))
+            × IsTable (job_of self.now) (program_of self.now) self.now.plan.now first_type second_type table × (text ≡ before.now ++ table))
             (O.output out.old) (O.output out.new) result }
         ensures passed { OnOk result (W.passed watch.old watch.new (self.now.plan.now.points + 1)) }
         ensures stopped { IfErr result (λ f. (n : ℕ) × StopsAt 0 (self.now.plan.now.points + 1) f n × W.passed watch.old watch.new n) }
     {
-        let body = self.body_text(a, b, watch)?;
-        self.put_table(out, before, a, b, &body)
+        let body = self.body_text(first_type, second_type, watch)?;
+        self.put_table(out, before, first_type, second_type, &body)
     }
 
     // Writes the tables of a type with itself and with the types after it, which follow those of the types before it.
@@ -183,29 +185,29 @@ impl<'a, A: Allocator + Copy> PlannedTables<'a, A> {
     fn put_tables_of<O: Out, W: Progress>(
         &self,
         out: &mut O,
-        a: u32,
+        first_type: u32,
         watch: &mut W,
     ) -> Result<(), Failure<OutFault>>
         requires room { (O.output out.old).failed < 2 ^ 64 - 1 }
         requires is { IsPlanned self.now }
-        requires within { a < length self.now.job.now.types.items }
+        requires within { first_type < length self.now.job.now.types.items }
         ensures tables { (origin : Output)
-            → WroteTables (job_of self.now) (program_of self.now) self.now.plan.now a a origin (O.output out.old)
-            → OnOk result (WroteTables (job_of self.now) (program_of self.now) self.now.plan.now (a + 1) (a + 1)
+            → WroteTables (job_of self.now) (program_of self.now) self.now.plan.now first_type first_type origin (O.output out.old)
+            → OnOk result (WroteTables (job_of self.now) (program_of self.now) self.now.plan.now (first_type + 1) (first_type + 1)
             origin (O.output out.new)) }
         ensures room { OnOk result ((O.output out.new).failed ≡ (O.output out.old).failed) }
         ensures passed { OnOk result (W.passed watch.old watch.new
-            ((2 * (length self.now.job.now.types.items - a) - 1) * (self.now.plan.now.points + 1))) }
+            ((2 * (length self.now.job.now.types.items - first_type) - 1) * (self.now.plan.now.points + 1))) }
         ensures stopped { (origin : Output)
-            → WroteTables (job_of self.now) (program_of self.now) self.now.plan.now a a origin (O.output out.old)
+            → WroteTables (job_of self.now) (program_of self.now) self.now.plan.now first_type first_type origin (O.output out.old)
             → IfErr result (λ f. (n : ℕ)
             × AreCut (job_of self.now) (program_of self.now) self.now.plan.now origin (O.output out.new) f
-            (rows_before (job_of self.now) self.now.plan.now a a + n)
+            (rows_before (job_of self.now) self.now.plan.now first_type first_type + n)
             × W.passed watch.old watch.new n) }
     {
-        self.put_one(out, separator_of(a), a, a, watch)?;
-        for b in a + 1..self.job.types.len() as u32 {
-            self.put_both(out, a, b, watch)?;
+        self.put_one(out, separator_of(first_type), first_type, first_type, watch)?;
+        for second_type in first_type + 1..self.job.types.len() as u32 {
+            self.put_both(out, first_type, second_type, watch)?;
         }
         Ok(())
     }
@@ -226,8 +228,8 @@ impl<'a, A: Allocator + Copy> PlannedTables<'a, A> {
             × AreCut (job_of self.now) (program_of self.now) self.now.plan.now (O.output out.old) (O.output out.new) f n
             × W.passed watch.old watch.new n) }
     {
-        for a in 0..self.job.types.len() as u32 {
-            self.put_tables_of(out, a, watch)?;
+        for first_type in 0..self.job.types.len() as u32 {
+            self.put_tables_of(out, first_type, watch)?;
         }
         Ok(())
     }
@@ -251,8 +253,40 @@ impl<'a, A: Allocator + Copy> PlannedTables<'a, A> {
             × W.passed watch.old watch.new n) }
     {
         match self.plan.pair {
-            Some((a, b)) => self.put_one(out, b"", a, b, watch),
+            Some((first_type, second_type)) => self.put_one(
+                out,
+                b"",
+                first_type,
+                second_type,
+                watch,
+            ),
             None => self.put_every_table(out, watch),
+        }
+    }
+
+    // Writes the tables of the plan, and returns the faults of a curve. Reports each row.
+    fn put_curve<O: Out, W: Progress>(
+        &self,
+        out: &mut O,
+        watch: &mut W,
+    ) -> Result<(), CurveFault<A>>
+        requires room { (O.output out.old).failed < 2 ^ 64 - 1 }
+        requires is { IsPlanned self.now }
+        requires pair { IsPairOf (job_of self.now) self.now.plan.now.pair }
+        ensures wrote { OnOk result (WroteSome (IsCurve (job_of self.now) self.now.plan.now)
+            (Appends (O.output out.old) (O.output out.new))) }
+        ensures passed { OnOk result (W.passed watch.old watch.new
+            (table_count (job_of self.now) self.now.plan.now.pair * (self.now.plan.now.points + 1))) }
+        // The slices of both codes are reported before any row.
+        ensures stopped { IfErr result (λ fault. (n : ℕ)
+            × IsCurveUnwritten (job_of self.now) self.now.plan.now (O.output out.old) (O.output out.new) fault
+            (2 * slices_of (job_of self.now) + n)
+            × W.passed watch.old watch.new n) }
+    {
+        match self.put_planned(out, watch) {
+            Ok(()) => Ok(()),
+            Err(Failure::Refused(fault)) => Err(CurveFault::Out(fault)),
+            Err(Failure::Memory) => Err(CurveFault::Memory),
         }
     }
 }
@@ -288,20 +322,17 @@ pub fn write_curve<A: Allocator + Copy, O: Out, W: Progress>(
         × IsCurveUnwritten (job_value job.now) plan.now (O.output out.old) (O.output out.new) fault n
         × W.passed watch.old watch.new n) }
 {
-    let potential = match Potential::new(alloc, job, watch) {
-        Ok(potential) => potential,
-        Err(Failure::Refused(fault)) => return Err(CurveFault::Rejected(fault)),
-        Err(Failure::Memory) => return Err(CurveFault::Memory),
-    };
-    let tables = PlannedTables {
-        alloc,
-        job,
-        potential: &potential,
-        plan,
-    };
-    match tables.put_planned(out, watch) {
-        Ok(()) => Ok(()),
-        Err(Failure::Refused(fault)) => Err(CurveFault::Out(fault)),
+    match Potential::new(alloc, job, watch) {
+        Ok(potential) => {
+            let tables = PlannedTables {
+                alloc,
+                job,
+                potential: &potential,
+                plan,
+            };
+            tables.put_curve(out, watch)
+        }
+        Err(Failure::Refused(fault)) => Err(CurveFault::Rejected(fault)),
         Err(Failure::Memory) => Err(CurveFault::Memory),
     }
 }

@@ -1,6 +1,11 @@
-use Rattle.std.proofs.Common.{arith}
-use Rattle.std.proofs.lemmas.Int.{ints}
+use Rattle.std.proofs.Common.{subst, sym, ◌≤ℤ◌, arith}
+use Rattle.std.proofs.lemmas.Int.{clamps, ints}
+use Rattle.curves.proofs.JumpLaws.{least_above}
 use Rattle.curves.proofs.jumps.up_to.Goals as goal
 
-pub returns-else-from-clause-ordered : goal.returns-else-from-clause-ordered
-returns-else-from-clause-ordered c = λ l. omega (arith, ints, c.from_raw.ensures, c.from-else-from.ensures, c.raw-else-from.ensures)
+pub returns-clause-value : goal.returns-clause-value
+returns-clause-value c =
+    omega (arith, ints, clamps, c.from_raw.ensures, c.min.ensures.value, c.raw.ensures, c.from.ensures, c.from-2.ensures, c.raw-2.ensures, c.from-3.ensures)
+
+pub returns-clause-ordered : goal.returns-clause-ordered
+returns-clause-ordered c = λ l. subst (λ z. c.args.at ≤ℤ z) (sym (returns-clause-value c)) (least_above c.args.high c.args.at c.args.more l)

@@ -19,7 +19,7 @@ returns-clause-body g c =
     let j = job_value c.args.self.now.job.now in
     let is = c.in_ok-body.ensures.body in
     IfOk-weaker c.into_text.result _ _
-    (λ text h. is_body j (trees_of c.args.self.now.potential.now.slope.energy) c.args.self.now.plan.now c.args.a c.args.b c.in_ok-pair.pair.a
+    (λ text h. is_body j (trees_of c.args.self.now.potential.now.slope.energy) c.args.self.now.plan.now c.args.first_type c.args.second_type c.in_ok-pair.pair.a
     c.in_ok-pair.pair.b c.in_ok-body.body text.items is c.in_ok-pair.ensures.first c.in_ok-pair.ensures.second h)
     (c.into_text.ensures is.rows is.has)
 

@@ -13,6 +13,6 @@ pub returns : goal.returns
 returns g c =
     let j = job_value c.args.self.now.job.now in
     put_same c.put_table.result _ _ _ _
-    (both_in_one_is _ _ _ _ between_tables (pair_line j c.args.a c.args.b) (table_text j c.args.self.now.plan.now c.args.b c.args.a c.args.body.now)
+    (both_in_one_is _ _ _ _ between_tables (pair_line j c.args.first_type c.args.second_type) (table_text j c.args.self.now.plan.now c.args.second_type c.args.first_type c.args.body.now)
     c.new-before.ensures.items c.in_ok-extend_from_slice.ensures.items c.in_ok-put_pair.ensures c.deref.ensures.value)
     c.put_table.ensures

@@ -14,8 +14,8 @@ returns g c =
     let j = job_value c.args.self.now.job.now in
     let plan = c.args.self.now.plan.now in
     put_same c.without_memory.result _ _ _ _
-    (both_in_two_is _ _ between_tables (table_text j plan c.args.a c.args.b c.args.first.now)
-    (table_text j plan c.args.b c.args.a c.args.second.now)
-    (table_is j plan c.args.a c.args.b between_tables c.in_ok-head.head.items _ c.args.first.now c.in_ok-head.ensures c.deref.ensures.value)
-    (table_is j plan c.args.b c.args.a between_tables c.in_ok-next_head.next_head.items _ c.args.second.now c.in_ok-next_head.ensures c.deref-2.ensures.value))
+    (both_in_two_is _ _ between_tables (table_text j plan c.args.first_type c.args.second_type c.args.one_body.now)
+    (table_text j plan c.args.second_type c.args.first_type c.args.other_body.now)
+    (table_is j plan c.args.first_type c.args.second_type between_tables c.in_ok-head.head.items _ c.args.one_body.now c.in_ok-head.ensures c.deref.ensures.value)
+    (table_is j plan c.args.second_type c.args.first_type between_tables c.in_ok-next_head.next_head.items _ c.args.other_body.now c.in_ok-next_head.ensures c.deref-2.ensures.value))
     (c.without_memory.ensures _ _ _ c.write_two.ensures)

@@ -17,7 +17,7 @@ returns-in_err-body-clause-stopped g c =
 pub returns-clause-table : goal.returns-clause-table
 returns-clause-table g c =
     put_some c.put_table.result _ _ _ _
-    (table_behind (job_value c.args.self.now.job.now) (trees_of c.args.self.now.potential.now.slope.energy) c.args.self.now.plan.now c.args.a c.args.b _ _ _
+    (table_behind (job_value c.args.self.now.job.now) (trees_of c.args.self.now.potential.now.slope.energy) c.args.self.now.plan.now c.args.first_type c.args.second_type _ _ _
     c.in_ok-body.ensures.body c.deref.ensures.value)
     c.put_table.ensures
 

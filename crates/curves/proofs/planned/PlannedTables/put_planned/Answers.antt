@@ -8,8 +8,8 @@ use Rattle.curves.proofs.planned.PlannedTables.put_planned.Goals as goal
 
 pub returns-in-Some-clause-tables : goal.returns-in-Some-clause-tables
 returns-in-Some-clause-tables g c =
-    one_written (job_value c.args.self.now.job.now) (trees_of c.args.self.now.potential.now.slope.energy) c.args.self.now.plan.now c.put_one.result c.in-Some.a
-    c.in-Some.b _ _ c.in-Some.is (none_before c.put_one.result _ _ _ c.put_one.ensures.table)
+    one_written (job_value c.args.self.now.job.now) (trees_of c.args.self.now.potential.now.slope.energy) c.args.self.now.plan.now c.put_one.result c.in-Some.first_type
+    c.in-Some.second_type _ _ c.in-Some.is (none_before c.put_one.result _ _ _ c.put_one.ensures.table)
 
 pub returns-in-Some-clause-passed : goal.returns-in-Some-clause-passed
 returns-in-Some-clause-passed g c =
@@ -19,8 +19,8 @@ returns-in-Some-clause-passed g c =
 
 pub returns-in-Some-clause-stopped : goal.returns-in-Some-clause-stopped
 returns-in-Some-clause-stopped g c =
-    one_cut (job_value c.args.self.now.job.now) (trees_of c.args.self.now.potential.now.slope.energy) c.args.self.now.plan.now c.put_one.result c.in-Some.a
-    c.in-Some.b _ _ (g.W.Progress.passed c.args.watch.now c.put_one.new.watch) c.in-Some.is (none_before c.put_one.result _ _ _ c.put_one.ensures.table)
+    one_cut (job_value c.args.self.now.job.now) (trees_of c.args.self.now.potential.now.slope.energy) c.args.self.now.plan.now c.put_one.result c.in-Some.first_type
+    c.in-Some.second_type _ _ (g.W.Progress.passed c.args.watch.now c.put_one.new.watch) c.in-Some.is (none_before c.put_one.result _ _ _ c.put_one.ensures.table)
     c.put_one.ensures.stopped
 
 pub returns-in-None-clause-tables : goal.returns-in-None-clause-tables

@@ -9,5 +9,5 @@ pub returns : goal.returns
 returns g c =
     let j = job_value c.args.self.now.job.now in
     put_same c.without_memory.result _ _ _ _
-    (table_is j c.args.self.now.plan.now c.args.a c.args.b c.args.before.now c.in_ok-head.head.items _ c.args.body.now c.in_ok-head.ensures c.deref.ensures.value)
+    (table_is j c.args.self.now.plan.now c.args.first_type c.args.second_type c.args.before.now c.in_ok-head.head.items _ c.args.body.now c.in_ok-head.ensures c.deref.ensures.value)
     (c.without_memory.ensures _ _ _ c.write_both.ensures)

@@ -3,7 +3,7 @@ use Rattle.std.proofs.lemmas.Result.{err_from_is_err_and}
 use Rattle.energy_program.specs.Programs.{trees_of}
 use Rattle.interval_domain.specs.Views.{span_range}
 use Rattle.job.specs.Views.{job_value}
-use Rattle.curves.specs.Slices.{FlagsView, bounds_view}
+use Rattle.curves.specs.Slices.{ColumnFlagsView, bounds_view}
 use Rattle.curves.proofs.TableLaws.{is_row}
 use Rattle.curves.proofs.planned.PlannedTables.row_at.Goals as goal
 
@@ -21,5 +21,5 @@ returns g c =
     is_row j program c.args.self.now.plan.now c.args.i (bounds_view worst.energy.bound worst.slope.bound) pair.a pair.b c.query_of-query.result
     c.distance_at-distance.result c.energy_at-energy.result c.slope_at-slope.result _ _ _ pair.others.items (span_range worst.energy.range)
     (span_range worst.slope.range) c.query_of-query.ensures.value c.distance_at-distance.ensures.value c.energy_at-energy.ensures
-    c.slope_at-slope.ensures c.requires.others c.in_ok-worst.ensures (ap (λ (f : FlagsView). f.energy) c.jumps.view_is ∙ c.in_ok-jumps.ensures.energy) (ap (λ (f : FlagsView). f.slope) c.jumps.view_is ∙ c.in_ok-jumps.ensures.slope)
+    c.slope_at-slope.ensures c.requires.others c.in_ok-worst.ensures (ap (λ (f : ColumnFlagsView). f.energy) c.jumps.view_is ∙ c.in_ok-jumps.ensures.energy) (ap (λ (f : ColumnFlagsView). f.slope) c.jumps.view_is ∙ c.in_ok-jumps.ensures.slope)
     c.in_ok-slope_grid.ensures
