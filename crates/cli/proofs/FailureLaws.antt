@@ -1,25 +1,20 @@
 -- Faults of commands from failed calls: if a call rejects its input, the command rejects the text.
-use Rattle.std.proofs.Common.{ℕ, Bool, List, Err, inl, inr}
-use Rattle.energy_program.specs.Faults as energies
-use Rattle.energy_program.specs.declared.faults.ExprFault.{ExprFault}
-use Rattle.potential.specs.Verdicts.{HasNoSlopeKernel}
+use Rattle.std.proofs.Common.{ℕ, List, Err, inl, inr}
 use Rattle.potential.specs.declared.faults.EnergyFault.{EnergyFault}
-use Rattle.potential.specs.declared.faults.EnergyFault.TheVariants as energy
 use Rattle.engine.specs.Engines.{EngineView, HasNoEngineOfTexts, IsEngineOfTexts}
 use Rattle.engine.specs.declared.faults.InputFault.{InputFault}
 use Rattle.engine.specs.declared.faults.InputFault.TheVariants as input
-use Rattle.fallible.specs.Failures.{Fails, IfRefused}
+use Rattle.fallible.specs.Failures.{IfRefused}
 use Rattle.fallible.specs.declared.failure.Failure.{Failure}
 use Rattle.fallible.specs.declared.failure.Failure.TheVariants.{Refused, Memory}
 use Rattle.job.specs.JobFaults.{JobReadsAs}
-use Rattle.job.specs.JobText.{IsJobText, limits}
+use Rattle.job.specs.JobText.{limits}
 use Rattle.job.specs.Values.{JobValue}
 use Rattle.job.specs.Views as jobs
 use Rattle.job.specs.declared.faults.JobFault.{JobFault}
-use Rattle.cli.specs.Conversions.{listed_code_of}
 use Rattle.cli.specs.Failures.{command_fault}
 use Rattle.cli.specs.Quantities.{LacksQuantity}
-use Rattle.cli.specs.Refusals.{RefusesCode, RefusesQuantity, RefusesSlope, RefusesUnder}
+use Rattle.cli.specs.Refusals.{RefusesQuantity, RefusesUnder}
 use Rattle.cli.specs.declared.faults.CommandFault.{CommandFault}
 use Rattle.cli.specs.declared.faults.CommandFault.TheVariants as fault
 use Rattle.command_line.specs.declared.commands.Quantity.{Quantity}
@@ -31,19 +26,6 @@ pub job_refused : {A : Type 0} (job : List ℕ) (Refuses' : JobValue → Command
     → IfRefused failure (λ f. JobReadsAs limits job (Err (jobs.refusal_of f))) → RefusesUnder job Refuses' (command_fault (λ f. fault.Rejected (input.Job f)) failure)
 job_refused job Refuses' (Refused f) h = inl h
 job_refused job Refuses' Memory h = inl tt
-
--- If the derivative of a job that is read has no accepted code, the job's text is rejected.
-pub slope_refused : {A : Type 0} (job : List ℕ) (said : JobValue) (failure : Failure (EnergyFault A)) → IsJobText limits job said
-    → IfRefused failure (HasNoSlopeKernel said) → RefusesUnder job RefusesSlope (command_fault (λ f. fault.Rejected (input.Energy f)) failure)
-slope_refused job said (Refused f) read h = inr (said, read, h)
-slope_refused job said Memory read h = inl tt
-
--- If a job that is read has no code to list, the job's text is rejected.
-pub code_refused : {A : Type 0} (job : List ℕ) (of_energy : Bool) (said : JobValue) (failure : Failure (ExprFault A)) → IsJobText limits job said
-    → Fails energies.refusal_of failure (listed_code_of of_energy said)
-    → RefusesUnder job (RefusesCode of_energy) (command_fault (λ f. fault.Rejected (input.Energy (energy.Energy f))) failure)
-code_refused job of_energy said (Refused f) read h = inr (said, read, h)
-code_refused job of_energy said Memory read h = inl tt
 
 -- If the texts have no engine, they have no quantity.
 pub engine_refused : {A : Type 0} (q : Quantity) (job state : List ℕ) (failure : Failure (InputFault A))

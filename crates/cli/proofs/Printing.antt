@@ -1,18 +1,12 @@
--- Laws of whole writes: the text is printed.
-use Rattle.std.proofs.Common.{◌≡◌, ◌==◌, ℕ, List, ap, inl, inr, refl, Result, Ok, Err, codes}
+-- Laws of the texts of faults.
+use Rattle.std.proofs.Common.{◌≡◌, ◌==◌, ℕ, List, ap, inl, inr, refl, codes}
 use Rattle.std.specs.List.{before_first}
 use Rattle.line_text.proofs.LineLaws.{before_lacks}
-use Rattle.fallible.specs.Out.{Output, Writes}
-use Rattle.cli.specs.Command.{IsOneLine, IsSaid, Prints, line}
+use Rattle.cli.specs.Command.{IsOneLine, IsSaid, line}
 use Rattle.cli.specs.Reports.{IsReason, no_such_type, said}
 use Rattle.cli.specs.Statuses.{status_number}
 use Rattle.cli.specs.declared.faults.Status.{Status}
 use Rattle.cli.specs.declared.faults.Status.TheVariants as status
-
--- a text written to an output, whole or as a prefix before a failed write, was printed
-pub written : {T E : Type 0} (r : Result T E) {before after : Output} {text : List ℕ} → Writes before after text r → Prints before after text
-written (Ok x) w = inl w
-written (Err e) w = inr w
 
 -- the text that no type has a name is one line, with the first line of the name
 pub type_line : (name first : List ℕ) → first ≡ before_first (λ byte. byte == 10) name → IsOneLine (no_such_type first)
