@@ -5,7 +5,7 @@ use Rattle.command_line.specs.CommandLine.{AsksForHelp, AsksForVersion, IsComman
 use Rattle.command_line.proofs.OneCommand.{no_help, no_version, one_command}
 use Rattle.fallible.specs.Out.{Output}
 use Rattle.cli.specs.Actions.{AsksFor, EndOfRun, Held, OfKnownTask, OneText, Paths, StatesOfRun, StatesOfStream, TablesOfJob, Task, UpTo, also_requested, files_of}
-use Rattle.cli.specs.Command.{HasOutput, IsAnswer, IsNotRefused, IsSaid, PrintsBefore, PrintsError, PrintsIfCounted, line}
+use Rattle.cli.specs.Command.{HasOutput, IsAnswer, IsDone, IsNotRefused, IsQuiet, IsSaid, PrintsBefore, PrintsError, PrintsIfCounted, line}
 use Rattle.cli.specs.CommandFailure.{IsFailure}
 use Rattle.cli.specs.Performed.{EndsIn}
 use Rattle.cli.specs.Refusals.{IsFaultOf, IsUnreadOf}
@@ -138,6 +138,34 @@ answers_fault words held requested requested' out out' err between err' f result
       only = λ c named accepted. only_told f result (PrintsIfCounted between err') out out' (wants (output_accepted words held c named accepted)) told;
       answered = λ wish none. only_told f result (PrintsIfCounted between err') out out' (wants (wish_accepted words held wish none)) told;
     }
+
+-- If arguments were carried out, and standard error has at most progress lines, the answer is status 0.
+pub answers_done : (words : List (List ℕ)) (held : Held) (requested requested' : Paths) (out out' err err' : Output) (result : ℕ)
+    → result ≡ 0 → IsDone words held requested requested' out out' → IsQuiet words held out out' err err'
+    → IsAnswer words held requested requested' out out' err err' result
+answers_done words held requested requested' out out' err err' result zero ended told = record {
+  most = omega (arith, zero);
+  done = λ same. ended;
+  quiet = λ same. told;
+  said = λ some. absurd (some zero);
+  kept = λ some. absurd (some zero);
+  misuse = λ two. absurd (omega (arith, two, zero));
+  misused = λ misuse none. absurd (is_wished misuse none ended);
+  reads = asked ended;
+  only = λ c named known. inl zero;
+  answered = λ wish named. inl zero;
+}
+  where
+    is_wished : IsMisuse words → (AsksForHelp words ⊎ AsksForVersion words → ⊥) → IsDone words held requested requested' out out' → ⊥
+    is_wished misuse none (inl help) = none (inl help.0)
+    is_wished misuse none (inr (inl version)) = none (inr version.0)
+    is_wished misuse none (inr (inr (c, named, asks, printed))) = misuse.1 c named
+
+    asked : IsDone words held requested requested' out out'
+        → (requested' ≡ requested) ⊎ ((c : CommandView) × IsCommand words c × AsksFor c requested requested')
+    asked (inl help) = inl help.1
+    asked (inr (inl version)) = inl version.1
+    asked (inr (inr (c, named, asks, printed))) = inr (c, named, inl asks)
 
 -- and how it failed
 pub failure_told : {A : Type 0} (words : List (List ℕ)) (held : Held) (requested requested' : Paths) (out out' err between err' : Output) (f : CommandFault A) (result : ℕ)
