@@ -12,7 +12,7 @@ use Rattle.engine.specs.declared.faults.InputFault.TheVariants as input
 use Rattle.runs.specs.Plans.{PlanView, end_plan, last_text, steps_made, steps_to}
 use Rattle.runs.specs.Shown.{HasShown, IsUnshown}
 use Rattle.runs.specs.Visits.{IsShownOfRun, Showing, WroteTexts}
-use Rattle.runs.specs.Watching.{Report, counts_of, hundredths_behind}
+use Rattle.runs.specs.Watching.{Report, counts_of}
 use Rattle.runs.specs.WholeStates.{ShowsState}
 use Rattle.runs.specs.declared.faults.RunFault.{RunFault}
 use Rattle.runs.specs.declared.faults.RunFault.TheVariants as run

@@ -1,6 +1,6 @@
 //! The output of `check`: the verdict on a job's slope code or on a listing.
 
-ghost use Rattle.std.specs.Prelude.{◌≡◌, ◌≤◌, ◌-◌, ◌<◌, ◌^◌, IfErr, IfOk, List, Ok, string_bytes};
+ghost use Rattle.std.specs.Prelude.{◌≡◌, ◌≤◌, ◌-◌, ◌<◌, ◌^◌, IfErr, IfOk, Ok, string_bytes};
 ghost use Rattle.potential.specs.Energies.{slope_code_of};
 ghost use Rattle.potential.specs.Progress.{IsPassedBefore, slices_of};
 ghost use Rattle.potential.specs.Verdicts.{HasNoKernel, HasNoSlopeKernel, IsAccepted, IsSlopeKernel};
@@ -8,8 +8,6 @@ ghost use Rattle.fallible.specs.Failures.{IfRefused};
 ghost use Rattle.job.specs.JobText.{IsJobText, limits};
 ghost use Rattle.job.specs.Values.{JobValue};
 ghost use Rattle.job.specs.Views.{job_value};
-ghost use Rattle.kernel_code.specs.Listing.{ParsesAs};
-ghost use Rattle.kernel_code.specs.declared.instructions.Instr.{Instr};
 ghost use Rattle.verifier.specs.Kernels.{Kernel};
 ghost use Rattle.cli.specs.Actions.{AreSlices, OfJob, RejectsChecked, parts_work};
 ghost use Rattle.cli.specs.Performed.{WritesLine, WritesText};

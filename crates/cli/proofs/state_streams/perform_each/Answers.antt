@@ -1,5 +1,5 @@
 -- the texts of the stream are those of the command
-use Rattle.std.proofs.Common.{◌∙◌, subst}
+use Rattle.std.proofs.Common.{subst}
 use Rattle.command_line.specs.declared.commands.EachOutput.TheVariants as shown
 use Rattle.runs.specs.Observations.{ShowsTable}
 use Rattle.streams.specs.Streams.{shown_by}
