@@ -1,35 +1,28 @@
 -- Branches: the branch that the program takes has the computed value and slope of a choice, and the branch that the exact
 -- numbers take has the exact ones.
-use Rattle.std.proofs.Common.{◌≡◌, ℕ, zero, suc, ◌==◌, ◌&&◌, ◌^◌, ◌<◌, ℤ, pos, negsuc, ◌-ℤ◌, ◌≤ℤ◌, Bool, true, false, List, Option, Some, None, Result, Ok, Err, slice_get, refl, sym, ap, subst, ◌∙◌, ◌⊎◌, inl, inr, if◌then◌else◌, arith}
+use Rattle.std.proofs.Common.{◌≡◌, ℕ, ◌&&◌, ℤ, pos, negsuc, ◌-ℤ◌, ◌≤ℤ◌, Bool, true, false, Option, Some, None, Result, Ok, Err, refl, sym, ap, subst, ◌∙◌, ◌⊎◌, inl, inr, if◌then◌else◌, arith}
 use Rattle.std.specs.Int.{int_max, int_min}
 use Rattle.std.proofs.lemmas.Bool.Decides.{nat_tests}
 use Rattle.std.proofs.lemmas.Int.{ints, clamps}
 use Rattle.fixed.proofs.FloorLemmas.{two_pos}
 use Rattle.std.proofs.lemmas.Option.{none-some, same_Some}
-use Rattle.fixed.specs.Arithmetic.{absolute_of, difference_of, is_zero, negative_of, number_or_overflow, step_of}
-use Rattle.fixed.specs.Constants as constants
-use Rattle.fixed.specs.declared.constants.Constant.{Constant}
+use Rattle.fixed.specs.Arithmetic.{difference_of, is_zero, number_or_overflow, step_of}
 use Rattle.fixed.specs.declared.faults.Fault.{Fault}
 use Rattle.fixed.specs.declared.operations.Operator.{Operator}
 use Rattle.fixed.specs.declared.operations.Operator.TheVariants as op
 use Rattle.fixed.specs.declared.operations.Function.{Function}
 use Rattle.fixed.specs.declared.operations.Function.TheVariants as f
-use Rattle.fixed.specs.declared.operations.FlatFunction.TheVariants as flat
 use Rattle.interval_domain.proofs.OutcomeLemmas.{number_is}
-use Rattle.energy_program.specs.Tree.{Tree, Number, Input, Negated, Binary, Applied, Power, Select, is_free_of_distance}
 use Rattle.energy_program.specs.Value as v
-use Rattle.energy_program.specs.Value.{value_of}
 use Rattle.derivative.specs.Exact as numbers
-use Rattle.derivative.specs.Exact.{Numbers, exact, exact_slope, exact_value, minus, step_of as exact_step_of}
-use Rattle.derivative.specs.Slope.{applied_row, fixed_point, operation_row, power_row, slope_of, unless_constant}
-use Rattle.derivative.proofs.ExactLaws.{chosen, order_by_difference}
+use Rattle.derivative.specs.Exact.{Numbers, exact}
+use Rattle.derivative.specs.Slope.{applied_row, fixed_point, operation_row, power_row, unless_constant}
 use Rattle.error_bounds.specs.Approximations.{Approximation}
 use Rattle.error_bounds.specs.Meanings.{ApproximatesIfThere}
 use Rattle.error_bounds.specs.Ordered.{AreOrdered}
 use Rattle.formula_bounds.specs.Entries as e
-use Rattle.formula_bounds.specs.Entries.{Entry, missing}
-use Rattle.formula_bounds.specs.Walks.{condition_of_one, condition_of_two, is_open, taken}
-use Rattle.formula_bounds.specs.Written.{AreApproximated, IsWritten}
+use Rattle.formula_bounds.specs.Entries.{Entry}
+use Rattle.formula_bounds.specs.Walks.{is_open, taken}
 use Rattle.formula_bounds.proofs.EntryLaws as laws
 
 -- ---- computed choices

@@ -1,5 +1,5 @@
 -- A formula without choices has a single walk.
-use Rattle.std.proofs.Common.{◌≡◌, ℕ, ◌+◌, ◌&&◌, ◌||◌, Bool, true, false, List, [], ◌∷◌, ◌++◌, append-nil, map, Option, None, refl, sym, ap, ◌∙◌}
+use Rattle.std.proofs.Common.{◌≡◌, ℕ, ◌+◌, ◌&&◌, ◌||◌, Bool, true, false, List, [], ◌∷◌, ◌++◌, append-nil, map, None, refl, sym, ap, ◌∙◌}
 use Rattle.std.specs.List.{flat_map, list_any}
 use Rattle.std.proofs.lemmas.Bool.{or_parts}
 use Rattle.std.proofs.lemmas.List.Folds.{list_any-append}
@@ -13,7 +13,7 @@ use Rattle.error_bounds.specs.Approximations.{Approximation}
 use Rattle.formula_bounds.specs.Entries as e
 use Rattle.formula_bounds.specs.Entries.{Entry, entries_from, entry_of, entry_of_program, known_from}
 use Rattle.formula_bounds.specs.Nodes.{formula_of, has_choice, is_choice, is_choice_of_one, is_choice_of_two, nodes_of}
-use Rattle.formula_bounds.specs.Walks.{Defined, Walked, after_part, branches_if_open, branches_of_one, branches_of_two, defined, entries_of_program, walked, walks_from, walks_of}
+use Rattle.formula_bounds.specs.Walks.{Walked, after_part, branches_if_open, branches_of_one, branches_of_two, defined, entries_of_program, walked, walks_from, walks_of}
 
 -- ---- operations that are no choices
 

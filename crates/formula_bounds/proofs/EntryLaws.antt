@@ -22,7 +22,7 @@ use Rattle.derivative.specs.Exact.{Numbers, exact, exact_slope, exact_value, who
 use Rattle.derivative.specs.Slope.{Operations, applied_row, fixed_point, operation_row, power_row, product_row, quotient_row, slope_of, unless_constant}
 use Rattle.error_bounds.specs.Approximations.{Approximation}
 use Rattle.error_bounds.specs.Approximate as a
-use Rattle.error_bounds.specs.Approximate.{approximate, power_rule, power_within}
+use Rattle.error_bounds.specs.Approximate.{approximate}
 use Rattle.formula_bounds.specs.Entries as e
 use Rattle.formula_bounds.specs.Entries.{Entry, entries_from, entry_of, entry_of_program, known_from, missing}
 use Rattle.error_bounds.specs.Meanings.{ApproximatesIfThere}

@@ -1,5 +1,5 @@
 -- Outcomes of several walks are right, if some walk has what is computed, and some walk has what is exact.
-use Rattle.std.proofs.Common.{◌≡◌, ℕ, ℤ, pos, ◌-ℤ◌, ◌*ℤ◌, ◌≤ℤ◌, List, [], ◌∷◌, Option, Some, None, refl, sym, ap, subst, ◌∙◌, ◌⊎◌, inl, inr, arith}
+use Rattle.std.proofs.Common.{◌≡◌, ℕ, ℤ, pos, ◌-ℤ◌, ◌*ℤ◌, List, [], ◌∷◌, Option, Some, None, refl, subst, inl, inr, arith}
 use Rattle.std.proofs.lemmas.Int.{ints, clamps}
 use Rattle.std.proofs.lemmas.Option.{none-some, same_Some}
 use Rattle.derivative.specs.Exact.{Numbers}
@@ -10,7 +10,7 @@ use Rattle.error_bounds.specs.Ordered.{AreOrdered, IsBetween}
 use Rattle.error_bounds.specs.Rules.{apart, either_outcomes, of_outcomes}
 use Rattle.error_bounds.proofs.Between.{wider}
 use Rattle.error_bounds.proofs.Bounded.{within_limits_of}
-use Rattle.formula_bounds.specs.Walks.{approximation_of_all, either_if_there, of_outcomes_if_there, outcomes_if_there, outcomes_of_all}
+use Rattle.formula_bounds.specs.Walks.{approximation_of_all, either_if_there, of_outcomes_if_there, outcomes_of_all}
 use Rattle.formula_bounds.proofs.WalkLaws.{Some_of}
 
 module _ {V : Type 0} (k : Numbers V) (h : AreOrdered k) (bits : ℕ) where

@@ -1,14 +1,12 @@
 -- The two sides of a walk: what the program computes, and the exact numbers. Each step of a walk keeps either.
-use Rattle.std.proofs.Common.{◌≡◌, ℕ, zero, suc, ◌==◌, ◌&&◌, ℤ, pos, Bool, true, false, List, Option, Some, None, slice_get, refl, sym, ap, subst, ◌∙◌, ◌⊎◌, inl, inr, if◌then◌else◌}
-use Rattle.std.proofs.lemmas.Option.{none-some, same_Some}
-use Rattle.fixed.specs.Arithmetic.{is_zero}
-use Rattle.fixed.specs.declared.constants.Constant.{Constant}
+use Rattle.std.proofs.Common.{◌≡◌, ℕ, ◌&&◌, ℤ, pos, Bool, true, false, List, Option, Some, None, refl, sym, ap, subst, ◌∙◌, ◌⊎◌, inl, inr, if◌then◌else◌}
+use Rattle.std.proofs.lemmas.Option.{none-some}
 use Rattle.fixed.specs.declared.operations.Operator.{Operator}
 use Rattle.fixed.specs.declared.operations.Operator.TheVariants as op
 use Rattle.fixed.specs.declared.operations.Function.{Function}
 use Rattle.fixed.specs.declared.operations.Function.TheVariants as f
 use Rattle.fixed.specs.declared.operations.FlatFunction.TheVariants as flat
-use Rattle.energy_program.specs.Tree.{Tree, Number, Input, Negated, Binary, Applied, Power, Select, is_free_of_distance}
+use Rattle.energy_program.specs.Tree.{Tree, Number, Input, Binary, Applied, Select, is_free_of_distance}
 use Rattle.energy_program.specs.Value as v
 use Rattle.energy_program.specs.Value.{value_of}
 use Rattle.derivative.specs.Exact as numbers
@@ -20,7 +18,7 @@ use Rattle.error_bounds.specs.Approximate as a
 use Rattle.error_bounds.specs.Meanings.{ApproximatesIfThere}
 use Rattle.error_bounds.specs.Ordered.{AreOrdered}
 use Rattle.formula_bounds.specs.Entries as e
-use Rattle.formula_bounds.specs.Entries.{Entry, missing}
+use Rattle.formula_bounds.specs.Entries.{Entry}
 use Rattle.formula_bounds.specs.Walks.{condition_of_one, condition_of_two, if_there, is_open, taken}
 use Rattle.formula_bounds.specs.Written.{AreApproximated, IsWritten}
 use Rattle.formula_bounds.proofs.EntryLaws as laws

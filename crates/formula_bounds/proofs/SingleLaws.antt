@@ -6,7 +6,7 @@ use Rattle.energy_program.specs.Tree.{Tree, Number, Input, Definition, Negated, 
 use Rattle.error_bounds.specs.Approximations.{Approximation}
 use Rattle.formula_bounds.specs.Entries as entries
 use Rattle.formula_bounds.specs.Entries.{Entry, entries_from, entry_of, entry_of_program, known_from}
-use Rattle.formula_bounds.specs.Walks.{Defined, Walked, after_part, defined, entries_of_program, walked, walks_from, walks_of}
+use Rattle.formula_bounds.specs.Walks.{Defined, Walked, after_part, entries_of_program, walked, walks_from, walks_of}
 
 -- ---- lists of one element
 
@@ -121,12 +121,6 @@ module _ (bits : ℕ) (inputs : List Approximation) where
 
   -- ---- programs
 
-  some_definitions : (i : ℕ) (ds : List Tree) (left : ℕ) → IsSome (walks_from bits inputs i ds left)
-  some_definitions i [] left e = absurd (cc)
-  some_definitions i (d ∷ ds) left e =
-      some_flat _ (walks_from bits inputs (i + 1) ds left)
-      (λ k. some_map _ _ (some_walks (known_from bits (i + 1) k.entries) d k.left)) (some_definitions (i + 1) ds left) e
-
   single_definitions : (i : ℕ) (ds : List Tree) (left : ℕ) (k : Defined) → walks_from bits inputs i ds left ≡ k ∷ []
       → k.entries ≡ entries_from bits inputs i ds
   single_definitions i [] left k e = sym (ap (λ (d : Defined). d.entries) (head_is _ k e))
@@ -137,12 +131,6 @@ module _ (bits : ℕ) (inputs : List Approximation) where
       sym (ap (λ (m : Defined). m.entries) b.2)
       ∙ ap (λ (x : Entry). x ∷ a.0.entries) (single_tree (known_from bits (i + 1) a.0.entries) d a.0.left b.0 b.1)
       ∙ ap (λ (l : List Entry). entry_of bits inputs (known_from bits (i + 1) l) d ∷ l) (single_definitions (i + 1) ds left a.0 a.1)
-
-  -- each program has a walk
-  pub some_entries : (program : Trees) (left : ℕ) → entries_of_program bits inputs program left ≡ [] → ⊥
-  some_entries (body, ds) left e =
-      some_map _ _
-      (some_flat _ (walks_from bits inputs 0 ds left) (λ k. some_walks (known_from bits 0 k.entries) body k.left) (some_definitions 0 ds left)) e
 
   -- a single walk has the program's entry
   pub single_entry : (program : Trees) (left : ℕ) (x : Entry) → entries_of_program bits inputs program left ≡ x ∷ []

@@ -1,5 +1,5 @@
 -- Walks that divide: if a property of trees and entries holds at each step of one walk, the entry of some walk has it.
-use Rattle.std.proofs.Common.{◌≡◌, ℕ, zero, suc, ◌+◌, ◌==◌, ◌&&◌, ℤ, pos, Bool, true, false, List, [], ◌∷◌, ◌++◌, map, length, Option, Some, None, slice_get, refl, sym, ap, subst, ◌∙◌, ◌⊎◌, inl, inr, if◌then◌else◌}
+use Rattle.std.proofs.Common.{◌≡◌, ℕ, zero, suc, ◌+◌, ◌==◌, ◌&&◌, ℤ, pos, Bool, true, false, List, [], ◌∷◌, ◌++◌, map, length, Option, Some, None, slice_get, refl, ◌⊎◌, inl, inr, if◌then◌else◌}
 use Rattle.std.proofs.lemmas.Bool.{and_parts}
 use Rattle.std.specs.List.{flat_map}
 use Rattle.energy_program.specs.Programs.{Trees}
@@ -13,7 +13,7 @@ use Rattle.derivative.specs.Exact.{Numbers}
 use Rattle.error_bounds.specs.Approximations.{Approximation}
 use Rattle.formula_bounds.specs.Entries as e
 use Rattle.formula_bounds.specs.Entries.{Entry, known_from, missing}
-use Rattle.formula_bounds.specs.Walks.{Defined, Walked, after_applied, after_binary, after_part, after_select, branches_if_open, condition_of_one, condition_of_two, defined, entries_of_program, is_open, taken, walked, walks_from, walks_of}
+use Rattle.formula_bounds.specs.Walks.{Defined, Walked, after_part, branches_if_open, condition_of_one, condition_of_two, entries_of_program, is_open, taken, walks_from, walks_of}
 use Rattle.formula_bounds.specs.Written.{AreWritten, IsWritten, IsWrittenProgram}
 use Rattle.formula_bounds.specs.Written as m
 use Rattle.formula_bounds.proofs.EntryLaws.{AreExponents, scoped_exponents}
