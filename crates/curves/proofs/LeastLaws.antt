@@ -4,7 +4,7 @@ use Rattle.energy_program.specs.Programs.{Trees}
 use Rattle.error_bounds.specs.Approximations.{Approximation, Outcomes}
 use Rattle.formula_bounds.specs.Entries.{Entry, entry_of_program}
 use Rattle.curves.specs.Slices.{BoundsView, bound_of_all, bounds_of, bounds_view, in_entry, least_bounds, lesser_bound, plain_bounds}
-use Rattle.formula_bounds.specs.Walks.{either_if_there, entries_of_program, or_one, outcomes_if_there, outcomes_of_all}
+use Rattle.formula_bounds.specs.Walks.{divided_entries, either_if_there, entries_of_program, outcomes_if_there, outcomes_of_all, several}
 use Rattle.curves.specs.declared.slices.Column.{Column}
 use Rattle.curves.specs.declared.slices.Column.TheVariants.{Energy, Slope}
 use Rattle.formula_bounds.specs.Nodes.{formula_of, has_choice}
@@ -57,26 +57,32 @@ module _ (bits : ℕ) (inputs : List Approximation) (program : Trees) (left : �
   abbrev all : List Entry
   all = entries_of_program bits inputs program left
 
+  -- the lesser of bounds, and those of the walks with these entries
+  abbrev lesser : BoundsView → List Entry → BoundsView
+  lesser b es =
+      bounds_view (lesser_bound b.energy (bound_of_all (map (in_entry Energy) es))) (lesser_bound b.slope (bound_of_all (map (in_entry Slope) es)))
+
   -- if no walk divided, the bounds are those of the entry of the walk that doesn't divide
-  pub plain_walk : (x : Entry) (es : List Entry) (b : BoundsView) → x ≡ entry_of_program bits inputs program → or_one x es ≡ all
-      → length es < 2 → b ≡ bounds_of x → b ≡ least all
-  plain_walk x [] b ex e few eb = eb ∙ ap bounds_of ex ∙ ap least e
-  plain_walk x (y ∷ []) b ex e few eb = eb ∙ ap bounds_of ex ∙ ap least e
-  plain_walk x (y ∷ z ∷ zs) b ex e few eb = absurd (omega (arith, few))
+  pub plain_walk : (x : Entry) (es : List Entry) (b : BoundsView) → x ≡ entry_of_program bits inputs program
+      → es ≡ divided_entries bits inputs program left → length es ≡ 0 → b ≡ bounds_of x → b ≡ least all
+  plain_walk x es b ex e none eb = eb ∙ ap bounds_of ex ∙ of_single all (sym (ap length e) ∙ none)
+    where
+      of_single : (es : List Entry) → length (several es) ≡ 0 → plain ≡ least es
+      of_single [] none = refl
+      of_single (y ∷ []) none = refl
+      of_single (y ∷ z ∷ zs) none = absurd (omega (arith, none))
 
   -- several walks have the lesser bounds
-  pub several_walks : (x : Entry) (es : List Entry) (p b : BoundsView) → x ≡ entry_of_program bits inputs program → or_one x es ≡ all
-      → (length es < 2 → ⊥) → p ≡ bounds_of x
-      → b ≡ bounds_view (lesser_bound p.energy (bound_of_all (map (in_entry Energy) es))) (lesser_bound p.slope (bound_of_all (map (in_entry Slope) es)))
-      → b ≡ least all
-  several_walks x [] p b ex e several ep eb = absurd (several (omega arith))
-  several_walks x (y ∷ []) p b ex e several ep eb = absurd (several (omega arith))
-  several_walks x (y ∷ z ∷ zs) p b ex e several ep eb =
-      eb
-      ∙ ap (λ (q : BoundsView).
-      bounds_view (lesser_bound q.energy (bound_of_all (map (in_entry Energy) (y ∷ z ∷ zs))))
-      (lesser_bound q.slope (bound_of_all (map (in_entry Slope) (y ∷ z ∷ zs))))) (ep ∙ ap bounds_of ex)
-      ∙ ap least e
+  pub several_walks : (x : Entry) (es : List Entry) (p b : BoundsView) → x ≡ entry_of_program bits inputs program
+      → es ≡ divided_entries bits inputs program left → (length es ≡ 0 → ⊥) → p ≡ bounds_of x → b ≡ lesser p es → b ≡ least all
+  several_walks x es p b ex e some ep eb =
+      eb ∙ ap (λ (q : BoundsView). lesser q es) (ep ∙ ap bounds_of ex) ∙ ap (lesser plain) e
+      ∙ of_several all (λ none. some (ap length e ∙ none))
+    where
+      of_several : (es : List Entry) → (length (several es) ≡ 0 → ⊥) → lesser plain (several es) ≡ least es
+      of_several [] some = absurd (some refl)
+      of_several (y ∷ []) some = absurd (some refl)
+      of_several (y ∷ z ∷ zs) some = refl
 
   -- a formula without choices has the plain bounds
   pub without_choice : (b : BoundsView) → has_choice (formula_of program) ≡ false → b ≡ plain

@@ -421,7 +421,7 @@ impl<'a, A: Allocator + Copy> PairFormula<'a, A> {
             .formula
             .entries_of_walks(self.alloc, self.frac, inputs, DIVISIONS)?;
         let plain = bounds_of(&plain);
-        if divided.len() < 2 {
+        if divided.is_empty() {
             return Ok(plain);
         }
         Ok(Bounds {

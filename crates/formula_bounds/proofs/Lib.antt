@@ -11,5 +11,6 @@ pub mod StepListLaws
 pub mod StepLaws
 pub mod DefinitionLaws
 pub mod SingleLaws
+pub mod SeveralLaws
 pub mod ChoiceLaws
 pub mod FormulaLaws

@@ -1,7 +1,7 @@
 -- The nodes of a tree in a list, each before its parts and the last part first, and the entry that a walk over the list
 -- from its end computes with a stack.
 use Rattle.std.specs.List.{flat_map, list_any}
-use Rattle.std.specs.Prelude.{ℕ, ◌-◌, ◌==◌, ◌||◌, Bool, true, false, if◌then◌else◌, Option, Some, None, List, [], ◌∷◌, ◌++◌, map, drop, slice_get, slice_index_or, slice_set, Vec}
+use Rattle.std.specs.Prelude.{ℕ, ◌≡◌, ◌-◌, ◌==◌, ◌||◌, Bool, true, false, if◌then◌else◌, Option, Some, None, List, [], ◌∷◌, ◌++◌, length, map, drop, slice_get, slice_index_or, slice_set, Vec}
 use Rattle.fixed.specs.declared.operations.Operator.{Operator}
 use Rattle.fixed.specs.declared.operations.Operator.TheVariants as op
 use Rattle.fixed.specs.declared.operations.Function.{Function}
@@ -147,7 +147,11 @@ top_of w = at_depth w.stack 0
 
 -- ---- a walk that doesn't divide, beside those that do
 
--- the walk that doesn't divide, and those that did: none before the first open choice
+-- there isn't exactly one element
+abbrev pub IsNotSingle : {A : Type 0} → List A → Type 0
+IsNotSingle xs = length xs ≡ 1 → ⊥
+
+-- the walk that doesn't divide, and those that did: none before the first open choice, then two or more
 pub record AllWalks : Type 0 where
   pub plain : Walk
   pub divided : List Walk

@@ -65,6 +65,12 @@ branches_of_select x y z = branches_if_open (x.free && (y.free && z.free)) x.val
 
 -- ---- walks
 
+-- these elements if there are two or more, else none
+abbrev pub several : {A : Type 0} → List A → List A
+several [] = []
+several (x ∷ []) = []
+several (x ∷ y ∷ ys) = x ∷ y ∷ ys
+
 -- the entry of a tree in a walk, and the number of choices at which the walk may still divide
 pub record Walked : Type 0 where
   pub entry : Entry
@@ -129,6 +135,10 @@ module _ (bits : ℕ) where
     entries_of_program (body, definitions) left =
         map (λ (w : Walked). w.entry)
         (flat_map (λ (k : Defined). walks_of (known_from bits 0 k.entries) body k.left) (walks_from 0 definitions left))
+
+    -- the entries of the walks that divided: all entries if there are two or more, none of a single walk
+    abbrev pub divided_entries : Trees → (left : ℕ) → List Entry
+    divided_entries program left = several (entries_of_program program left)
 
 -- these elements, or if there are none, this one
 abbrev pub or_one : {A : Type 0} (one : A) → List A → List A

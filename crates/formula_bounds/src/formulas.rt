@@ -7,7 +7,7 @@ ghost use Rattle.energy_program.specs.Tree.{tree_of};
 ghost use Rattle.formula_bounds.specs.Entries as e;
 ghost use Rattle.formula_bounds.specs.Entries.{entries_from, entry_of_program, known_from};
 ghost use Rattle.formula_bounds.specs.Nodes as nodes;
-ghost use Rattle.formula_bounds.specs.Walks.{Defined, entries_of_program, or_one, walks_from};
+ghost use Rattle.formula_bounds.specs.Walks.{Defined, divided_entries, walks_from};
 ghost use Rattle.formula_bounds.specs.Nodes.{after_node, after_nodes, at_depth, nodes_of};
 
 use crate::entries::Entry;
@@ -268,6 +268,7 @@ impl<A: Allocator + Copy> Formula<A> {
         ensures dividing { (program : Trees) → self.now ≡ nodes.formula_of program
             → IfOk result (λ all. nodes.dividing all ≡ map (λ (d : Defined). nodes.walk d.entries [] d.left)
             (walks_from (bits_of frac) inputs.now 0 program.1 left)) }
+        ensures several { IfOk result (λ all. nodes.IsNotSingle all.divided) }
     {
         let mut walks = AllWalks::new(alloc, no_entries(alloc, self.definitions.len())?, left);
         for index in (0..self.definitions.len()).rev() {
@@ -279,7 +280,7 @@ impl<A: Allocator + Copy> Formula<A> {
 
     /// The entries of the formula in all walks on these approximations of its inputs, each of which divides at up to `left`
     /// open choices. The first part of the result is the entry of the walk that doesn't divide, as `entry` returns it. The
-    /// second part has the entries of the walks that divided: none if no choice is open.
+    /// second part has the entries of the walks that divided, two or more; none if no walk divided.
     ///
     /// Returns an error if memory ran out.
     pub fn entries_of_walks(
@@ -291,8 +292,8 @@ impl<A: Allocator + Copy> Formula<A> {
     ) -> Result<(Entry, Vec<Entry, A>), AllocError>
         ensures plain { (program : Trees) → self.now ≡ nodes.formula_of program
             → IfOk result (λ all. all.0 ≡ entry_of_program (bits_of frac) inputs.now program) }
-        ensures walks { (program : Trees) → self.now ≡ nodes.formula_of program
-            → IfOk result (λ all. or_one all.0 all.1.items ≡ entries_of_program (bits_of frac) inputs.now program left) }
+        ensures divided { (program : Trees) → self.now ≡ nodes.formula_of program
+            → IfOk result (λ all. all.1.items ≡ divided_entries (bits_of frac) inputs.now program left) }
     {
         let mut walks = self.walks(alloc, frac, inputs, left)?;
         walks.walk(alloc, frac, inputs, &self.body)?;

@@ -3,7 +3,7 @@ ghost use Rattle.std.specs.Prelude.{◌≡◌, ◌∷◌, ◌++◌, [], ◌<◌,
 ghost use Rattle.std.specs.List.{flat_map};
 ghost use Rattle.fixed.specs.Fractions.{bits_of};
 ghost use Rattle.formula_bounds.specs.Nodes as nodes;
-ghost use Rattle.formula_bounds.specs.Nodes.{after_node_of, after_nodes_of, at_depth, branches_at, dividing, undivided};
+ghost use Rattle.formula_bounds.specs.Nodes.{IsNotSingle, after_node_of, after_nodes_of, at_depth, branches_at, dividing, undivided};
 ghost use Rattle.formula_bounds.specs.Entries as e;
 ghost use Rattle.formula_bounds.specs.Walks.{or_one};
 
@@ -288,7 +288,7 @@ fn tops<A: Allocator + Copy>(alloc: A, walks: &[Walk<A>]) -> Result<Vec<Entry, A
     Ok(tops)
 }
 
-/// The walk that doesn't divide, and those that did: none before the first open choice.
+/// The walk that doesn't divide, and those that did: none before the first open choice, then two or more.
 #[derive(Drop)]
 pub(crate) struct AllWalks<A: Allocator> {
     plain: Walk<A>,
@@ -307,6 +307,7 @@ impl<A: Allocator> AllWalks<A> {
     /// Sets the entry of the definition with this number to the one on top of the stack, which is removed, in each walk.
     pub(crate) fn define(&mut self, number: usize)
         ensures plain { nodes.undivided self.new.plain ≡ nodes.after_definition number (nodes.undivided self.old.plain) }
+        ensures divided { self.new.divided ≡ map (nodes.after_definition number) self.old.divided }
         ensures dividing { nodes.dividing self.new ≡ map (nodes.after_definition number) (nodes.dividing self.old) }
     {
         self.plain.define(number);
@@ -354,6 +355,7 @@ impl<A: Allocator + Copy> AllWalks<A> {
         ensures plain { IfOk result (λ _. self.new.plain ≡ self.old.plain) }
         ensures dividing { IfOk result (λ _. or_one (nodes.gone_on (bits_of frac) inputs.now node.now self.old.plain) self.new.divided
             ≡ flat_map (after_node_of (bits_of frac) inputs.now node.now) (nodes.dividing self.old)) }
+        ensures several { IsNotSingle self.old.divided → IfOk result (λ _. IsNotSingle self.new.divided) }
     {
         if !self.divided.is_empty() {
             step_all(alloc, frac, inputs, &mut self.divided, node)
@@ -375,6 +377,7 @@ impl<A: Allocator + Copy> AllWalks<A> {
         ensures plain { IfOk result (λ _. self.new.plain ≡ nodes.gone_on (bits_of frac) inputs.now node.now self.old.plain) }
         ensures dividing { IfOk result (λ _. nodes.dividing self.new
             ≡ flat_map (after_node_of (bits_of frac) inputs.now node.now) (nodes.dividing self.old)) }
+        ensures several { IsNotSingle self.old.divided → IfOk result (λ _. IsNotSingle self.new.divided) }
     {
         self.step_dividing(alloc, frac, inputs, node)?;
         self.plain.go_on(frac, inputs, *node)
@@ -392,6 +395,7 @@ impl<A: Allocator + Copy> AllWalks<A> {
             ≡ after_nodes_of (bits_of frac) inputs.now nodes.now (undivided self.old.plain ∷ [])) }
         ensures dividing { IfOk result (λ _. dividing self.new
             ≡ after_nodes_of (bits_of frac) inputs.now nodes.now (dividing self.old)) }
+        ensures several { IsNotSingle self.old.divided → IfOk result (λ _. IsNotSingle self.new.divided) }
     {
         for index in (0..nodes.len()).rev() {
             self.step(alloc, frac, inputs, &nodes[index])?;
@@ -402,7 +406,7 @@ impl<A: Allocator + Copy> AllWalks<A> {
     /// The entries on top of the stacks: of the walk that doesn't divide, and of those that did.
     pub(crate) fn tops(&self, alloc: A) -> Result<(Entry, Vec<Entry, A>), AllocError>
         ensures plain { IfOk result (λ t. t.0 ≡ nodes.top_of self.now.plain) }
-        ensures dividing { IfOk result (λ t. or_one t.0 t.1.items ≡ map nodes.top_of (nodes.dividing self.now)) }
+        ensures divided { IfOk result (λ t. t.1.items ≡ map nodes.top_of self.now.divided) }
     {
         Ok((self.plain.top(), tops(alloc, &self.divided)?))
     }

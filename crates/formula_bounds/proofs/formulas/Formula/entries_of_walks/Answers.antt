@@ -2,8 +2,9 @@ use Rattle.std.proofs.Common.{◌≡◌, ◌∙◌, List, [], ◌∷◌, ap, map
 use Rattle.fixed.specs.Fractions.{bits_of}
 use Rattle.formula_bounds.specs.Entries.{Entry}
 use Rattle.formula_bounds.specs.Nodes.{FormulaView, dividing, top_of, undivided}
-use Rattle.formula_bounds.specs.Walks.{or_one}
+use Rattle.formula_bounds.specs.Walks.{several}
 use Rattle.formula_bounds.proofs.DefinitionLaws.{entries_are}
+use Rattle.formula_bounds.proofs.SeveralLaws.{several_tops}
 use Rattle.formula_bounds.proofs.SingleLaws.{single_entry}
 use Rattle.formula_bounds.proofs.formulas.Formula.entries_of_walks.Goals as goal
 
@@ -16,10 +17,11 @@ returns-clause-plain g c = λ program e.
     subst (λ (x : Entry). IfOk c.tops.result (λ all. all.0 ≡ x)) (single_entry (bits_of c.args.frac) c.args.inputs.now program 0 top (sym all))
     c.tops.ensures.plain
 
-pub returns-clause-walks : goal.returns-clause-walks
-returns-clause-walks g c = λ program e.
+pub returns-clause-divided : goal.returns-clause-divided
+returns-clause-divided g c = λ program e.
     let nodes = c.deref.ensures.value ∙ ap (λ (f : FormulaView). f.body) (c.self.view_is ∙ e) in
-    subst (λ (l : List Entry). IfOk c.tops.result (λ all. or_one all.0 all.1.items ≡ l))
-    (entries_are (bits_of c.args.frac) c.args.inputs.now program c.args.left (dividing c.in_ok-walks.walks) (dividing c.walk.new.self)
-    c.deref.result.now (map top_of (dividing c.walk.new.self)) (c.in_ok-walks.ensures.dividing program e) nodes c.in_ok-walk.ensures.dividing refl)
-    c.tops.ensures.dividing
+    let all = entries_are (bits_of c.args.frac) c.args.inputs.now program c.args.left (dividing c.in_ok-walks.walks)
+    (dividing c.walk.new.self) c.deref.result.now (map top_of (dividing c.walk.new.self)) (c.in_ok-walks.ensures.dividing program e) nodes
+    c.in_ok-walk.ensures.dividing refl in
+    subst (λ (l : List Entry). IfOk c.tops.result (λ t. t.1.items ≡ l))
+    (several_tops c.walk.new.self (c.in_ok-walk.ensures.several c.in_ok-walks.ensures.several) ∙ ap several all) c.tops.ensures.divided
