@@ -15,6 +15,7 @@ ghost use Rattle.frame_sums.specs.Rounds.{AreForces};
 ghost use Rattle.frame_sums.specs.SafeSystems.{safe_dynamics};
 ghost use Rattle.engine.specs.Counting.{middle_of};
 
+use fallible::pair;
 use frame_sums::{Crew, Pool, SafeSystem, forces_on};
 use integrator::{Direction, Stepped, System, TypedAtoms, Workers, advance, frames_of};
 use observables::PairTotals;
@@ -23,7 +24,6 @@ use ring_box::{Place3, Vector};
 use rounds::{Forces, Gate, Memory};
 use state::State;
 use std::alloc::{AllocError, Allocator};
-use std::marker::Model;
 use std::mem;
 use std::thread::Threads;
 
@@ -97,9 +97,10 @@ impl<A: Allocator + Copy> Course<A> {
         ensures frames { IfOk result (λ c. frames_in c ≡ frames_of (state_view state.now)) }
         ensures step { IfOk result (λ c. c.step ≡ state.now.step) }
     {
-        let system = SafeSystem::new(alloc, system)?;
-        let frames = frames_of(alloc, state)?;
-        let crew = Crew::new(alloc, Workers::new(1))?;
+        let system = SafeSystem::new(alloc, system);
+        let frames = frames_of(alloc, state);
+        let crew = Crew::new(alloc, Workers::new(1));
+        let ((system, frames), crew) = pair(pair(system, frames), crew)?;
         Ok(Course {
             system,
             frames,

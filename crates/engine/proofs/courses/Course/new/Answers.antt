@@ -4,10 +4,14 @@ use Rattle.std.specs.Int.Signed.{mag}
 use Rattle.engine.proofs.courses.Course.new.Goals as goal
 
 pub invariant_of-result-clause-previous_atoms : goal.invariant_of-result-clause-previous_atoms
-invariant_of-result-clause-previous_atoms g c = rw c.in_ok-system.ensures (c.in_ok-frames.ensures.previous ∙ c.requires.atoms)
+invariant_of-result-clause-previous_atoms g c =
+    let made = rw c.in_ok-system.ensures.both.0 at c.pair.ensures.both in
+    rw (rw made.0 at c.new-system.ensures) ((rw made.1 at c.frames_of-frames.ensures.previous) ∙ c.requires.atoms)
 
 pub invariant_of-result-clause-current_atoms : goal.invariant_of-result-clause-current_atoms
-invariant_of-result-clause-current_atoms g c = rw c.in_ok-system.ensures (c.in_ok-frames.ensures.current ∙ c.requires.atoms)
+invariant_of-result-clause-current_atoms g c =
+    let made = rw c.in_ok-system.ensures.both.0 at c.pair.ensures.both in
+    rw (rw made.0 at c.new-system.ensures) ((rw made.1 at c.frames_of-frames.ensures.current) ∙ c.requires.atoms)
 
 pub invariant_of-result-clause-step_fits : goal.invariant_of-result-clause-step_fits
 invariant_of-result-clause-step_fits g c =
