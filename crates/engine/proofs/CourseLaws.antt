@@ -113,17 +113,17 @@ fits_next w n k a b all gone few =
 -- ---- engines at the frames of their courses
 
 -- the frames that steps of a state come to have its atoms
-pub reached_sizes : (w : Direction) (d : Dynamics) (n : ℕ) (s : StateView) (g : Frames) → steps_in w d n (frames_of s) ≡ Some g → Sized (length s.atoms) g
+reached_sizes : (w : Direction) (d : Dynamics) (n : ℕ) (s : StateView) (g : Frames) → steps_in w d n (frames_of s) ≡ Some g → Sized (length s.atoms) g
 reached_sizes w d n s g e = steps_sized w d n (frames_of s) g (length s.atoms) (length-map s.atoms (λ a. a.previous), length-map s.atoms (λ a. a.current)) e
 
 module _ {A : Type 0} (w : Direction) (n : ℕ) (j : Job A) (s : State A) (a b : Course A) (h : IsEngine j s a) (gone : HasGone w n a b) where
   -- the steps of the course, from the frames of the state
-  pub steps_of_state : steps_in w (engine_dynamics (engine_view j s a.system.system)) n (frames_of (state_view s)) ≡ Some (frames_in b)
+  steps_of_state : steps_in w (engine_dynamics (engine_view j s a.system.system)) n (frames_of (state_view s)) ≡ Some (frames_in b)
   steps_of_state =
       ap (λ (d : Dynamics). steps_in w d n (frames_of (state_view s))) (sym h.system.dynamics)
       ∙ ap (steps_in w (safe_dynamics a.system.system) n) (sym h.frames') ∙ gone.stepped
 
-  pub sizes : Sized (length s.atoms.items) (frames_in b)
+  sizes : Sized (length s.atoms.items) (frames_in b)
   sizes = subst (λ (k : ℕ). Sized k (frames_in b)) (length-map s.atoms.items atom_view) (reached_sizes w (engine_dynamics (engine_view j s a.system.system)) n (state_view s) (frames_in b) steps_of_state)
 
   -- the engine whose state is set to the course's frames differs in that state only
@@ -134,7 +134,7 @@ module _ {A : Type 0} (w : Direction) (n : ℕ) (j : Job A) (s : State A) (a b :
       ∙ ap (λ (v : StateView). record (engine_view j s a.system.system) { state = v }) moved
 
   -- the state that is set to the course's frames makes an engine with it again
-  pub is_engine : (t : State A) → state_view t ≡ moved_state (state_view s) (frames_in b) b.step → t.ring ≡ s.ring → length t.atoms.items ≡ length s.atoms.items → IsEngine j t b
+  is_engine : (t : State A) → state_view t ≡ moved_state (state_view s) (frames_in b) b.step → t.ring ≡ s.ring → length t.atoms.items ≡ length s.atoms.items → IsEngine j t b
   is_engine t moved ring atoms =
       let size = reached_sizes w (engine_dynamics (engine_view j s a.system.system)) n (state_view s) (frames_in b) steps_of_state in
       let at : frames_of (state_view t) ≡ (frames_in b) = ap frames_of moved ∙ frames_moved (state_view s) (frames_in b) b.step size.0 size.1 in
@@ -146,7 +146,7 @@ module _ {A : Type 0} (w : Direction) (n : ℕ) (j : Job A) (s : State A) (a b :
       }
 
   -- and the engine has gone as far
-  pub has_gone : (t : State A) → state_view t ≡ moved_state (state_view s) (frames_in b) b.step → in_range b.step ≡ true → Advanced w n (engine_view j s a.system.system) (engine_view j t b.system.system)
+  has_gone : (t : State A) → state_view t ≡ moved_state (state_view s) (frames_in b) b.step → in_range b.step ≡ true → Advanced w n (engine_view j s a.system.system) (engine_view j t b.system.system)
   has_gone t moved fits =
       let count : b.step ≡ counter_at w s.step n = gone.counted ∙ ap (λ z. counter_at w z n) h.step in
       let inside : in_range (counter_at w s.step n) ≡ true = ap in_range (sym count) ∙ fits in

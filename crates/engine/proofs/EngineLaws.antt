@@ -81,7 +81,7 @@ pub of_texts : {job state : List ℕ} {holds : JobValue → StateView → Type 0
 of_texts j s job_text state_text it = record { j = j; s = s; job_text = job_text; state_text' = state_text; it = it }
 
 -- a statement that follows from another holds of the same texts
-pub of_texts_too : {job state : List ℕ} {P Q : JobValue → StateView → Type 0} → OfTexts job state P → ((j : JobValue) (s : StateView) → P j s → Q j s) → OfTexts job state Q
+of_texts_too : {job state : List ℕ} {P Q : JobValue → StateView → Type 0} → OfTexts job state P → ((j : JobValue) (s : StateView) → P j s → Q j s) → OfTexts job state Q
 of_texts_too t more = of_texts t.j t.s t.job_text t.state_text' (more t.j t.s t.it)
 
 -- the texts of an engine are safe

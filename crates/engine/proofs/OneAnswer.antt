@@ -1,6 +1,6 @@
 -- If texts have a run and the slope code is accepted, the only possible errors are that memory ran out and that the
 -- output failed.
-use Rattle.std.proofs.Common.{◌≡◌, ℕ, ◌-◌, ◌*◌, ◌^◌, ◌≤◌, List, length, Option, Ok, Err, arith, refl, subst, sym, ◌∙◌}
+use Rattle.std.proofs.Common.{◌≡◌, ℕ, ◌-◌, ◌*◌, ◌^◌, ◌≤◌, List, length, Option, Ok, Err, arith, subst, sym, ◌∙◌}
 use Rattle.job.specs.JobText.{limits}
 use Rattle.job.specs.Values.{JobValue}
 use Rattle.job.proofs.OneResult.{job_reads_once}

@@ -9,7 +9,6 @@ use Rattle.job.specs.JobText.{IsJobText, limits}
 use Rattle.job.specs.Values.{JobValue}
 use Rattle.state.specs.StateText.{AtomView, IsState, StateView, state_text}
 use Rattle.potential.specs.Energies.{Energy, job_tree}
-use Rattle.fallible.specs.Out.{Appends, Output}
 use Rattle.integrator.specs.Frames.{AreOfSameAtoms, Frames, opposite, steps_in}
 use Rattle.integrator.specs.Starts.{as_written, system_of}
 use Rattle.integrator.specs.States.{counter_after, counter_at, frames_of, moved_state}
@@ -19,7 +18,7 @@ use Rattle.integrator.proofs.StateLaws.{frames_moved}
 use Rattle.integrator.proofs.ReturnLaws.{SystemParts, frames_are, moved_is, system_parts}
 use Rattle.integrator.proofs.MotionLaws.{returned}
 use Rattle.engine.specs.Engines.{EngineView, IsEngineOfTexts, SaysOnly, Advanced}
-use Rattle.engine.specs.RunSpecification.{IsLevesqueVerletRun, IsTextOf, WroteLevesqueVerletRun, who}
+use Rattle.engine.specs.RunSpecification.{IsLevesqueVerletRun, IsTextOf, who}
 use Rattle.engine.proofs.EngineLaws.{job_tree_is}
 use Rattle.engine.proofs.SpecifiedSteps.{leads, led_to}
 use Rattle.engine.proofs.SpecifiedTexts.{alike_is, moved_again, one_job, one_state, only_types, room_is, says_energy, types_are, who_moved}
@@ -51,7 +50,7 @@ module _ (job state : List ℕ) (w : Direction) (n : ℕ) (j : JobValue) (s : St
   is_state = moved_is s f went.counter state_text'.fits same_atoms.0 same_atoms.1 counted.1
 
   -- it has a text
-  pub text_of : IsTextOf (state_text after.state) after.state
+  text_of : IsTextOf (state_text after.state) after.state
   text_of = record { fits = subst IsState (sym after_is) is_state; is = refl }
 
   -- which the page relates to the texts
@@ -109,10 +108,6 @@ module _ (job state : List ℕ) (w : Direction) (n : ℕ) (e f : EngineView) (t 
 
   pub only_told : (text : List ℕ) → IsLevesqueVerletRun job state w n text → text ≡ state_text f.state
   only_told = only_of job state w n t.j t.s t.it.system t.job_text t.state_text' t.it.made f went
-
-  -- If an output accepts the text of the reached state, it accepts the text of the run.
-  pub wrote : (before after : Output) → Appends before after (state_text f.state) → WroteLevesqueVerletRun job state w n before after
-  wrote before after appends = record { text = state_text f.state; run = told; only = only_told; appends = appends }
 
 -- ---- its counter
 

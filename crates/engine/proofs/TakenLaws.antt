@@ -25,7 +25,7 @@ size_is types masses atoms n same count = ap length same ∙ length-map atoms (m
 
 module _ {A : Type 0} (j : Job A) (s t : State A) (y : System (SlopeKernel A) A) (h : IsSystemOf j s y) (atoms : TypedAtoms A) (are : AreAtomsOf j t y.kernel.verified atoms) where
   -- each atom of the other state has a mass
-  pub masses_of : length atoms.masses.items ≡ length t.atoms.items
+  masses_of : length atoms.masses.items ≡ length t.atoms.items
   masses_of = size_is (map type_value j.types.items) atoms.masses.items atoms.types.items (length t.atoms.items) are.masses' are.count
 
   -- the accepted code is safe for its atoms, in its box

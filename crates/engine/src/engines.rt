@@ -4,7 +4,7 @@
 //! call to call. Contracts see the job, the types and the state; the engine's type states that the course is at the
 //! state's frames (`IsEngine`). A call that makes steps writes the last frames to the state at its end.
 
-ghost use Rattle.std.specs.Prelude.{◌≡◌, ◌<◌, ◌≤◌, ◌^◌, ℕ, length, unsigned_abs, is_none, false, None, IfOk, IfErr, OnOk};
+ghost use Rattle.std.specs.Prelude.{◌≡◌, ◌<◌, ◌≤◌, length, is_none, false, None, IfOk, IfErr, OnOk};
 ghost use Rattle.std.specs.Bool.{OnFalse, OnTrue};
 ghost use Rattle.std.specs.List.{All};
 ghost use Rattle.fallible.specs.Failures.{IfRefused};
