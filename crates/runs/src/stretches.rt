@@ -23,9 +23,9 @@ pub(crate) struct Stretch {
     /// The number of steps of the stretch.
     pub steps: u64,
     /// The number of all steps of the run.
-    pub of: u64,
+    pub all_steps: u64,
     pub workers: Workers,
-    pub ghost within: { before + steps ≤ of },
+    pub ghost within: { before + steps ≤ all_steps },
 }
 
 /// Makes n steps, after `before` earlier ones.
@@ -50,13 +50,13 @@ fn go_on<R: Threads + Sync, A: Allocator + Copy + Send + Sync>(
     }
 }
 
-/// The number of further steps that complete the next hundredth of `of` steps; `done` steps are made.
-pub fn until_hundredth(done: u64, of: u64) -> u64
-    requires { done < of }
-    ensures { IsNextHundredth of done result }
+/// The number of further steps that complete the next hundredth of all steps; `done` steps are made.
+pub fn until_hundredth(done: u64, all: u64) -> u64
+    requires { done < all }
+    ensures { IsNextHundredth all done result }
 {
-    let next = u128::from(done) * 100 / u128::from(of) + 1;
-    (next * u128::from(of)).div_ceil(100) as u64 - done
+    let next = u128::from(done) * 100 / u128::from(all) + 1;
+    (next * u128::from(all)).div_ceil(100) as u64 - done
 }
 
 /// Makes the steps of a stretch of a run, and calls the watcher after each hundredth of the run's steps.
@@ -71,14 +71,14 @@ pub(crate) fn advance<R: Threads + Sync, A: Allocator + Copy + Send + Sync, W: W
 ) -> Result<(), u64>
     requires { AllFit stretch.now.direction engine.old.state.step stretch.now.steps }
     ensures went { OnOk result (Advanced stretch.now.direction stretch.now.steps engine.old engine.new) }
-    ensures told { OnOk result (W.told watch.old watch.new (reports_at (O.output out.now) stretch.now.of
-        (hundredths_behind stretch.now.of stretch.now.before stretch.now.steps))) }
+    ensures told { OnOk result (W.told watch.old watch.new (reports_at (O.output out.now) stretch.now.all_steps
+        (hundredths_behind stretch.now.all_steps stretch.now.before stretch.now.steps))) }
     ensures stopped { IfErr result (λ done. (made : ℕ)
         × IsStopped stretch.now.direction stretch.now.before stretch.now.steps made engine.old engine.new done
-        × W.told watch.old watch.new (reports_at (O.output out.now) stretch.now.of
-        (hundredths_behind stretch.now.of stretch.now.before made))) }
+        × W.told watch.old watch.new (reports_at (O.output out.now) stretch.now.all_steps
+        (hundredths_behind stretch.now.all_steps stretch.now.before made))) }
 {
-    let (direction, of, workers) = (stretch.direction, stretch.of, stretch.workers);
+    let (direction, all, workers) = (stretch.direction, stretch.all_steps, stretch.workers);
     if !watch.watches() {
         return go_on(
             rt,
@@ -92,12 +92,12 @@ pub(crate) fn advance<R: Threads + Sync, A: Allocator + Copy + Send + Sync, W: W
     let mut made = 0;
     while made < stretch.steps {
         let done = stretch.before + made;
-        let next = until_hundredth(done, of);
+        let next = until_hundredth(done, all);
         let more = next.min(stretch.steps - made);
         go_on(rt, engine, direction, more, workers, done)?;
         made += more;
         if more == next {
-            watch.tell(done + more, of, out);
+            watch.tell(done + more, all, out);
         }
     }
     Ok(())
@@ -125,7 +125,7 @@ pub fn watched_steps<R: Threads + Sync, A: Allocator + Copy + Send + Sync, W: Wa
         direction,
         before: 0,
         steps,
-        of: steps,
+        all_steps: steps,
         workers,
     };
     advance(rt, engine, &stretch, watch, out)

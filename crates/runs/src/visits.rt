@@ -49,7 +49,7 @@ fn advance_to<R: Threads + Sync, A: Allocator + Copy + Send + Sync, W: Watch, O:
         direction: plan.direction(),
         before,
         steps: plan.steps_to(number) - before,
-        of: plan.made(),
+        all_steps: plan.made(),
         workers: plan.workers(),
     };
     advance(rt, engine, &stretch, watch, out)

@@ -11,7 +11,7 @@ loop-made-init g c = record {
   within = omega arith;
   went = went_nowhere c.args.stretch.now.direction c.args.engine.now (c.requires 0 (omega arith));
   told = subst (g.W.Watch.told c.args.watch.now c.args.watch.now)
-      (sym (ap (reports_at (g.O.Out.output c.args.out.now) c.args.stretch.now.of) (hundredths-zero c.args.stretch.now.of c.args.stretch.now.before)))
+      (sym (ap (reports_at (g.O.Out.output c.args.out.now) c.args.stretch.now.all_steps) (hundredths-zero c.args.stretch.now.all_steps c.args.stretch.now.before)))
       (g.met.W.Watch.told_nothing c.args.watch.now);
 }
 
@@ -24,7 +24,7 @@ loop-made-preserved-then-more-next g c =
       within = omega (arith, c.min-more.ensures);
       went = steps_add _ made more _ _ _ c.loop-made.invariant.went c.in_ok-go_on.ensures.went;
       told = subst (g.W.Watch.told c.args.watch.now c.tell.new.self)
-          (sym (one_more_report (g.O.Out.output c.args.out.now) c.args.stretch.now.of c.args.stretch.now.before made more (rw same c.until_hundredth-next.ensures)))
+          (sym (one_more_report (g.O.Out.output c.args.out.now) c.args.stretch.now.all_steps c.args.stretch.now.before made more (rw same c.until_hundredth-next.ensures)))
           (g.met.W.Watch.told_more _ _ _ _ _ c.loop-made.invariant.told c.tell.ensures);
     }
 
@@ -37,8 +37,8 @@ loop-made-preserved g c =
       within = omega (arith, c.min-more.ensures);
       went = steps_add _ made more _ _ _ c.loop-made.invariant.went c.in_ok-go_on.ensures.went;
       told = subst (g.W.Watch.told c.args.watch.now c.loop-made.watch)
-          (sym (ap (reports_at (g.O.Out.output c.args.out.now) c.args.stretch.now.of)
-          (no_more_hundredth c.args.stretch.now.of c.args.stretch.now.before made c.until_hundredth-next.result more c.until_hundredth-next.ensures few)))
+          (sym (ap (reports_at (g.O.Out.output c.args.out.now) c.args.stretch.now.all_steps)
+          (no_more_hundredth c.args.stretch.now.all_steps c.args.stretch.now.before made c.until_hundredth-next.result more c.until_hundredth-next.ensures few)))
           c.loop-made.invariant.told;
     }
 
@@ -62,7 +62,7 @@ returns-in_err-go_on-clause-stopped g c =
           c.go_on-in-loop-made.new.engine
           (omega (arith, c.min-more.ensures, c.loop-made.invariant.within)) c.loop-made.invariant.went stopped.1,
       subst (g.W.Watch.told c.args.watch.now c.loop-made.watch)
-          (sym (ap (reports_at (g.O.Out.output c.args.out.now) c.args.stretch.now.of)
-          (no_more_hundredth c.args.stretch.now.of c.args.stretch.now.before made c.until_hundredth-next.result stopped.0 c.until_hundredth-next.ensures
+          (sym (ap (reports_at (g.O.Out.output c.args.out.now) c.args.stretch.now.all_steps)
+          (no_more_hundredth c.args.stretch.now.all_steps c.args.stretch.now.before made c.until_hundredth-next.result stopped.0 c.until_hundredth-next.ensures
           few))) c.loop-made.invariant.told,
     )

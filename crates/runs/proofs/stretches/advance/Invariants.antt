@@ -8,7 +8,7 @@ abbrev pub invariant-loop-made : goal.invariant-loop-made
 invariant-loop-made g l = record {
   within : l.made ≤ l.stretch.steps;
   went : Advanced l.stretch.direction l.made l.fn.engine l.engine;
-  told : g.W.Watch.told l.fn.watch l.watch (reports_at (g.O.Out.output l.out) l.stretch.of (hundredths_behind l.stretch.of l.stretch.before l.made));
+  told : g.W.Watch.told l.fn.watch l.watch (reports_at (g.O.Out.output l.out) l.stretch.all_steps (hundredths_behind l.stretch.all_steps l.stretch.before l.made));
 }
 
 abbrev pub decreases-loop-made : goal.decreases-loop-made

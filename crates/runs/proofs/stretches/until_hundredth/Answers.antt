@@ -5,7 +5,7 @@ use Rattle.runs.proofs.stretches.until_hundredth.Goals as goal
 
 pub returns : goal.returns
 returns c =
-    let of = c.args.of in
-    let widened : (c.from.result * 100 / c.from-2.result + 1) * c.from-3.result ≡ (100 * c.args.done / of + 1) * of = rw
-    (c.from.ensures, c.from-2.ensures, c.from-3.ensures) (ap (λ x. (x / of + 1) * of) (omega arith)) in
-    next_hundredth of c.args.done c.div_ceil.result c.requires (c.div_ceil.ensures ∙ ap (λ x. div_ceil x 100) widened)
+    let all = c.args.all in
+    let widened : (c.from.result * 100 / c.from-2.result + 1) * c.from-3.result ≡ (100 * c.args.done / all + 1) * all = rw
+    (c.from.ensures, c.from-2.ensures, c.from-3.ensures) (ap (λ x. (x / all + 1) * all) (omega arith)) in
+    next_hundredth all c.args.done c.div_ceil.result c.requires (c.div_ceil.ensures ∙ ap (λ x. div_ceil x 100) widened)
