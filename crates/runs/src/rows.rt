@@ -9,7 +9,7 @@ use crate::kept_observers::KeptObserver;
 use crate::observations::{observe, scales};
 use crate::showing::Show;
 use engine::Engine;
-use fallible::{Out, OutFault, write_all};
+use fallible::{Out, OutFault, write_all, write_both};
 use observables::Columns;
 use std::alloc::Allocator;
 
@@ -18,11 +18,11 @@ fn write_row<O: Out>(number: u64, head: &[u8], row: &[u8], out: &mut O) -> Resul
     requires { (O.output out.old).failed < 2 ^ 64 - 1 }
     ensures { Writes (O.output out.old) (O.output out.new) (headed number head.now row.now) result }
 {
-    if number != 0 {
-        return write_all(out, row);
+    if number == 0 {
+        write_both(out, head, row)
+    } else {
+        write_all(out, row)
     }
-    write_all(out, head)?;
-    write_all(out, row)
 }
 
 /// Shows each state by its table row: step, time, energies, temperature, pressure and momentum, the distance of the
