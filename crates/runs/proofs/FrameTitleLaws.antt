@@ -37,7 +37,7 @@ some_time (suc n) zero h g = absurd (omega arith)
 some_time (suc n) (suc k) h g = omega arith
 
 -- a time is written as its sign and its fs in ps
-pub time_parts : (time_step : ℕ) (step : ℤ) → 0 < time_step
+time_parts : (time_step : ℕ) (step : ℤ) → 0 < time_step
     → decimals_text 5 (time_of time_step step) ≡ sign step ++ picoseconds (unsigned_abs step * time_step)
 time_parts time_step (pos n) some = parts_are (n * time_step)
 time_parts time_step (negsuc n) some = below_zero (suc n * time_step * 100) (some_time (suc n) time_step (omega arith) some)
@@ -67,7 +67,7 @@ abs_fits (pos n) fits = omega arith
 abs_fits (negsuc n) fits = omega arith
 
 -- the whole picoseconds of a time fit 64 bits, for all step counters and time steps of at most 1000 fs
-pub time_fits : (m time_step : ℕ) → m ≤ 2 ^ 63 → time_step ≤ 1000 → m * time_step / 1000 < 2 ^ 64
+time_fits : (m time_step : ℕ) → m ≤ 2 ^ 63 → time_step ≤ 1000 → m * time_step / 1000 < 2 ^ 64
 time_fits m time_step a b = let l : m * time_step ≤ 2 ^ 63 * 1000 = mul-le-mul a b in omega arith
 
 -- a time has no line feed

@@ -48,7 +48,7 @@ unfolding numbers_from
 one n first = refl
 
 -- a stretch before the next one has none
-pub none_before : (n first more k : ℕ) → IsNextHundredth n first more → k < more → hundredths_behind n first k ≡ []
+none_before : (n first more k : ℕ) → IsNextHundredth n first more → k < more → hundredths_behind n first k ≡ []
 none_before n first more zero h few = hundredths-zero n first
 none_before n first more (suc k) h few =
     let e : k + 1 ≡ suc k = omega arith in
@@ -59,7 +59,7 @@ none_before n first more (suc k) h few =
     ∙ one n (first + k) ∙ ap (λ b. cond b (suc (first + k) ∷ []) []) no
 
 -- A stretch up to the next hundredth has only this hundredth.
-pub one_up_to : (n first more : ℕ) → IsNextHundredth n first more → hundredths_behind n first more ≡ (first + more) ∷ []
+one_up_to : (n first more : ℕ) → IsNextHundredth n first more → hundredths_behind n first more ≡ (first + more) ∷ []
 one_up_to n first zero h = absurd (omega (arith, h.some))
 one_up_to n first (suc k) h =
     let e : k + 1 ≡ suc k = omega arith in

@@ -1,15 +1,7 @@
 -- Plans: which steps they have.
-use Rattle.std.proofs.Common.{◌≡◌, ℕ, ◌+◌, ◌-◌, ◌*◌, ◌/◌, ◌≤◌, arith, ap, ◌∙◌, zero-add}
-use Rattle.std.proofs.Math.Nat.{div-mul-le_self, mul-le-mul_right}
+use Rattle.std.proofs.Common.{◌≡◌, ℕ, ◌-◌, ◌*◌, ◌/◌, arith, ap, ◌∙◌, zero-add}
 use Rattle.integrator.specs.declared.direction.Direction.{Direction}
 use Rattle.runs.specs.Plans.{end_plan, last_text, steps_made, steps_to, visits_plan}
-
--- the steps before a text are among all steps
-pub steps_within : (steps first every number : ℕ) → first ≤ steps → number ≤ (steps - first) / every → first + number * every ≤ steps
-steps_within steps first every number within few =
-    let most = mul-le-mul_right every few in
-    let all = div-mul-le_self (steps - first) every in
-    omega (arith, most, all)
 
 -- the run that shows its last state has one text
 pub end_text : (w : Direction) (n : ℕ) → last_text (end_plan w n) ≡ 0

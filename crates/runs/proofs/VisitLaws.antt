@@ -100,7 +100,7 @@ module _ (P Q : ℕ → List ℕ → Type 0) (both : (i : ℕ) (t : List ℕ) �
   module _ {R : Type 0} (Fails Fails' : Failure R → Type 0) (Leaves Leaves' Begun Begun' allocates : Type 0)
       (plan : PlanView) (o m : Output) (told told' : List Report → Type 0) (a : (f : Failure R) → Fails f → Fails' f)
       (c : Leaves → Leaves') (d : Begun → Begun') (to : (reports : List Report) → told reports → told' reports) where
-    pub unshown_map : (fault : RunFault R) → Unshown Fails Leaves Begun allocates P plan o m told fault
+    unshown_map : (fault : RunFault R) → Unshown Fails Leaves Begun allocates P plan o m told fault
         → Unshown Fails' Leaves' Begun' allocates Q plan o m told' fault
     unshown_map (run.Rejected f) h = (a (Refused f) h.0, h.1, to [] h.2)
     unshown_map run.Memory h = (a Memory h.0, h.1, to [] h.2)
@@ -124,7 +124,7 @@ module _ {W : Type 0} (told : W → W → List Report → Type 0) (nothing : (w 
   }
 
   -- the reports of a stretch on the way to the next text are in time
-  pub more_reports : (count first k : ℕ) (o m : Output) (u v w : W) → ((i : ℕ) → i < count → steps_to plan i ≤ first)
+  more_reports : (count first k : ℕ) (o m : Output) (u v w : W) → ((i : ℕ) → i < count → steps_to plan i ≤ first)
       → first + k ≤ steps_to plan count
       → HasShown IsText plan count first o m (told u v) → told v w (reports_at m (steps_made plan) (hundredths_behind (steps_made plan) first k))
       → HasShown IsText plan count (first + k) o m (told u w)

@@ -9,7 +9,7 @@ use Rattle.integrator.specs.States.{counter_after}
 use Rattle.integrator.specs.declared.direction.Direction.{Direction}
 use Rattle.integrator.specs.declared.faults.StepFault.TheVariants as step
 use Rattle.engine.specs.Engines.{AreSafe, CounterFits, CounterLeaves, EngineView, HasNoEngineOfTexts, IsEngineOfTexts, IsOfEnergy, Advanced}
-use Rattle.engine.specs.EngineEnergies.{HasNoEnergy, HasNoEnergyOfTexts}
+use Rattle.engine.specs.EngineEnergies.{HasNoEnergyOfTexts}
 use Rattle.engine.specs.declared.faults.InputFault.{InputFault}
 use Rattle.runs.specs.Observations.{HasEnergy}
 use Rattle.runs.specs.Plans.{PlanView, last_text, steps_made, steps_to}
