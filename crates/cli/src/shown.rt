@@ -17,7 +17,7 @@ use engine::InputFault;
 use fallible::Out;
 use integrator::Workers;
 use observables::Columns;
-use runs::{Plan, RunFault, Show, StateTexts, run_shown};
+use runs::{Plan, RunFault, RunTexts, Show, StateTexts, run_shown};
 use std::alloc::Allocator;
 use std::thread::Threads;
 
@@ -125,8 +125,11 @@ fn perform_shown<
         (O.output out.old) (O.output out.new) (E.output err.old) (E.output err.new) result }
 {
     let (job, state) = read_two(alloc, shown.run.job, shown.run.state, files)?;
-    let texts = (job.as_slice(), state.as_slice());
-    show_texts(rt, alloc, texts, shown, show, out, err)?;
+    let texts = RunTexts {
+        job: job.as_slice(),
+        state: state.as_slice(),
+    };
+    show_texts(rt, alloc, &texts, shown, show, out, err)?;
     Ok(())
 }
 
@@ -134,18 +137,17 @@ fn perform_shown<
 fn show_texts<'a, R: Threads + Sync, A: Allocator + Copy + Send + Sync, S: Show<A>, O: Out, E: Out>(
     rt: &R,
     alloc: A,
-    texts: (&[u8], &[u8]),
+    texts: &RunTexts,
     shown: &ShownRun<'a>,
     show: &S,
     out: &mut O,
     err: &mut E,
 ) -> Result<(), RunFault<InputFault<A>>>
     requires { (O.output out.old).failed < 2 ^ 64 - 1 }
-    ensures { RunsShown (S.shows show.now) texts.entry.0.now texts.entry.1.now shown.now.plan (O.output out.old) (O.output out.new)
+    ensures { RunsShown (S.shows show.now) texts.now.job.now texts.now.state.now shown.now.plan (O.output out.old) (O.output out.new)
         (ReportsSteps shown.now.run.progress (E.output err.old) (E.output err.new)) result }
 {
     let progress = shown.run.progress;
     let mut watch = ProgressLines { err, progress };
-    let (job, state) = texts;
-    run_shown(rt, alloc, job, state, &shown.plan, show, &mut watch, out)
+    run_shown(rt, alloc, texts, &shown.plan, show, &mut watch, out)
 }

@@ -22,7 +22,7 @@ pub use kept_observers::KeptObserver;
 pub use plans::Plan;
 pub use rows::Rows;
 pub use showing::Show;
-pub use shown_runs::{run_bytes, run_shown};
+pub use shown_runs::{RunTexts, run_bytes, run_shown};
 pub use stretches::{until_hundredth, watched_steps};
 pub use watching::{Unwatched, Watch};
 pub use whole_states::StateTexts;

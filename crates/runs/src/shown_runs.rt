@@ -5,7 +5,7 @@
 
 ghost use Rattle.std.specs.Prelude.{◌<◌, ◌-◌, ◌^◌, ℕ, List, OnOk, IfErr};
 ghost use Rattle.integrator.specs.Frames.{opposite};
-ghost use Rattle.engine.specs.Engines.{AreSafe};
+ghost use Rattle.engine.specs.Engines.{AreSafe, IsEngineOfTexts};
 ghost use Rattle.engine.specs.RunSpecification.{IsLevesqueVerletRun, WroteLevesqueVerletRun};
 ghost use Rattle.runs.specs.Shown.{RunsShown};
 ghost use Rattle.runs.specs.Unwritten.{IsRunUnwritten, IsResourceFault};
@@ -23,13 +23,37 @@ use integrator::{Direction, Workers};
 use std::alloc::Allocator;
 use std::thread::Threads;
 
+/// The bytes of a job and of a state.
+#[derive(Clone, Copy)]
+pub struct RunTexts<'a> {
+    pub job: &'a [u8],
+    pub state: &'a [u8],
+}
+
+/// Shows the states of a plan in the run of an engine. The errors are those of `run_shown`, except that the job and the
+/// state are accepted.
+fn show_run<R: Threads + Sync, A: Allocator + Copy + Send + Sync, S: Show<A>, W: Watch, O: Out>(
+    rt: &R,
+    engine: &mut Engine<A>,
+    plan: &Plan,
+    show: &S,
+    watch: &mut W,
+    out: &mut O,
+) -> Result<(), RunFault<InputFault<A>>>
+    requires count { (O.output out.old).failed < 2 ^ 64 - 1 }
+    ensures { (job state : List ℕ) → IsEngineOfTexts job state engine.old → RunsShown (S.shows show.now) job state plan.now
+        (O.output out.old) (O.output out.new) (W.told watch.old watch.new) result }
+{
+    let observer = KeptObserver::new(show, engine)?;
+    visit(rt, engine, &observer, plan, show, watch, out)
+}
+
 /// Runs a state according to a plan, and writes the texts of the states that the plan shows, one after another. Calls a
 /// watcher after each hundredth of the steps up to the last text.
 ///
-/// `job` and `state` are the bytes of a job and of a state. For every accepted job and state, all plans, all numbers of
-/// workers and every order of the workers' claims and additions, each text shows the state after that many
-/// Levesque-Verlet steps (J. Stat. Phys. 72, 519, 1993), which `run_bytes` would write. Steps after the last text are
-/// not made.
+/// For every accepted job and state, all plans, all numbers of workers and every order of the workers' claims and
+/// additions, each text shows the state after that many Levesque-Verlet steps (J. Stat. Phys. 72, 519, 1993), which
+/// `run_bytes` would write. Steps after the last text are not made.
 ///
 /// The errors come in this order: `Rejected` with errors of the job, the state and `Engine::new`, then of `KeptObserver::new`,
 /// or `Memory` if memory ran out in these; `Steps` with `StepRange` exactly if the counter would leave an i64 within the
@@ -45,20 +69,18 @@ pub fn run_shown<
 >(
     rt: &R,
     alloc: A,
-    job: &[u8],
-    state: &[u8],
+    texts: &RunTexts,
     plan: &Plan,
     show: &S,
     watch: &mut W,
     out: &mut O,
 ) -> Result<(), RunFault<InputFault<A>>>
     requires count { (O.output out.old).failed < 2 ^ 64 - 1 }
-    ensures { RunsShown (S.shows show.now) job.now state.now plan.now (O.output out.old) (O.output out.new)
+    ensures { RunsShown (S.shows show.now) texts.now.job.now texts.now.state.now plan.now (O.output out.old) (O.output out.new)
         (W.told watch.old watch.new) result }
 {
-    let mut engine = open(alloc, job, state)?;
-    let observer = KeptObserver::new(show, &engine)?;
-    visit(rt, &mut engine, &observer, plan, show, watch, out)
+    let mut engine = open(alloc, texts.job, texts.state)?;
+    show_run(rt, &mut engine, plan, show, watch, out)
 }
 
 /// Runs a state n steps in a direction with this number of workers, and writes the new state.
@@ -103,8 +125,7 @@ pub fn run_bytes<R: Threads + Sync, A: Allocator + Copy + Send + Sync, O: Out>(
     run_shown(
         rt,
         alloc,
-        job,
-        state,
+        &RunTexts { job, state },
         &Plan::of_end(direction, steps, workers),
         &StateTexts,
         &mut Unwatched,
