@@ -23,11 +23,6 @@ use Rattle.streams.specs.declared.differences.Difference.{Difference}
 use Rattle.streams.specs.declared.faults.StreamFault.{StreamFault}
 use Rattle.streams.specs.declared.faults.StreamFault.TheVariants as stream
 
--- an engine at the state of a text is an engine of its job and its state
-pub engine_at : (j : JobValue) (text : List ℕ) (e : EngineView) → IsAt j text e → IsEngineOf e.job e.state e
-engine_at j text e at = subst (λ (x : EngineView). IsEngineOf x.job x.state x) (sym at.is.is)
-    (record { system = at.is.system; made = at.is.made; is = refl; safe = at.is.safe })
-
 -- `number` segments were replayed up to the state with the text `last`, and `left` is left
 pub record Way (plan : ReplayPlanView) (job : List ℕ) (all : Left) (number differing : ℕ) (last : List ℕ) (left : Left)
     (before now : Output) : Type 0 where

@@ -69,7 +69,7 @@ module _ (plan : ReplayPlanView) (job : List ℕ) where
       subst (λ (n : ℕ). AreAccepted job n front) same (subst (AreAccepted job (count + 0)) (append-nil front) all)
 
   -- the accepted states behind replayed ones are accepted
-  pub rest_replayed : (count differing : ℕ) (front last text : List ℕ) → AreReplayed plan job count differing front last text
+  rest_replayed : (count differing : ℕ) (front last text : List ℕ) → AreReplayed plan job count differing front last text
       → (m : ℕ) (bytes rest : List ℕ) → AreAccepted job m bytes → bytes ≡ front ++ rest
       → (k : ℕ) × (m ≡ count + k) × AreAccepted job k rest
   rest_replayed count differing front last text (begins state safe) m bytes rest accepted split =
@@ -82,7 +82,7 @@ module _ (plan : ReplayPlanView) (job : List ℕ) where
       (next.0, omega (arith, first.1, next.1), next.3)
 
 -- two replays of a stream have the same number of states
-pub one_count : (plan other : ReplayPlanView) (job : List ℕ) (count count' differing differing' : ℕ) (stream last last' text text' : List ℕ)
+one_count : (plan other : ReplayPlanView) (job : List ℕ) (count count' differing differing' : ℕ) (stream last last' text text' : List ℕ)
     → AreReplayed plan job count differing stream last text → AreReplayed other job count' differing' stream last' text'
     → count ≡ count'
 one_count plan other job count count' differing differing' stream last last' text text' one two =
