@@ -11,7 +11,7 @@ import threading
 
 sys.dont_write_bytecode = True
 ROOT = os.path.dirname(os.path.dirname(os.path.realpath(__file__)))
-# of a mutant, if they end without a verdict
+# how often a mutant is tried at most, until a trial has a verdict
 TRIALS = 2
 
 
