@@ -1,6 +1,7 @@
 -- Distances decided in floating point.
-use Rattle.std.proofs.Common.{◌≡◌, ℕ, zero, suc, ◌*◌, ◌/◌, ◌^◌, ◌<◌, ◌≤◌, ℤ, pos, arith, refl, sym, ap, ◌∙◌}
-use Rattle.std.specs.Prelude.{◌≤ℤ◌, ◌<ℤ◌, unsigned_abs}
+use Rattle.std.proofs.Common.{◌≡◌, ℕ, zero, suc, ◌*◌, ◌/◌, ◌^◌, ◌<◌, ◌≤◌, ℤ, pos, arith, refl, subst, sym, ap, ◌∙◌}
+use Rattle.std.specs.Prelude.{◌≤ℤ◌, ◌<ℤ◌, ◌*ℤ◌, unsigned_abs}
+use Rattle.std.specs.Float.Ieee.{Float, binary64, mul, of_int}
 use Rattle.std.specs.Int.{int_max}
 use Rattle.std.proofs.lemmas.Int.{clamps, ints}
 use Rattle.std.proofs.lemmas.Nat.{mul-le}
@@ -9,6 +10,9 @@ use Rattle.fixed.specs.Roots.{root}
 use Rattle.fixed.specs.declared.frac.Frac.{Frac}
 use Rattle.fixed.specs.declared.frac.Frac.TheVariants.{F24, F32, F40}
 use Rattle.float_filters.specs.DistanceFilters.{IsScale, distance_of}
+use Rattle.float_filters.specs.Near.{IsNear, IsNearInteger}
+use Rattle.float_filters.proofs.ConversionLaws.{exact_integer}
+use Rattle.float_filters.proofs.SeparationLaws.{near_length}
 use Rattle.ring_box.specs.Acting.{IsReach, Reach, limit_of}
 use Rattle.ring_box.specs.Distances.{distance_at, unit_of, widening_of}
 use Rattle.ring_box.specs.FloatReaches.{scale_of, taken_at}
@@ -65,6 +69,13 @@ reach_scale d is = record {
   divisor = unit_positive d.frac;
   divisor_fits = unit_small d.frac;
 }
+
+-- the float product of an integer and a float that equals a side
+pub near_scaled : (n : ℤ) (side l : ℕ) (y : Float) → unsigned_abs n ≤ 2 ^ 31 → l ≡ side → 0 < l → l ≤ 16000000 → IsNear 0 y l 1
+    → IsNearInteger 1 (mul binary64 (of_int binary64 n) y) (n *ℤ pos side)
+near_scaled n side l y h e some most near =
+    subst (λ (s : ℕ). IsNearInteger 1 (mul binary64 (of_int binary64 n) y) (n *ℤ pos s)) e
+    (near_length n l (of_int binary64 n) y (omega (arith, h)) some (omega (arith, most)) (exact_integer n (omega (arith, h))) near)
 
 -- ---- one distance
 

@@ -4,7 +4,6 @@ use Rattle.std.specs.Prelude.{filter_map, option_to_list, slice_get, slice_index
 use Rattle.std.specs.Int.{from_bool, int_max}
 use Rattle.std.specs.Float.Ieee.{Float, nan}
 use Rattle.std.proofs.lemmas.Bool.{cases_eq, cases_lt, ltb-true, ltb-false}
-use Rattle.std.proofs.lemmas.Nat.{mul-le}
 use Rattle.std.proofs.lemmas.List.{get_or-map, get_or-set_other, get_or-set_same, get_or-take, length-map, length-take-le, map-append, take-set, take_more, take_more_set}
 use Rattle.std.proofs.lemmas.List.Elements.{All-get_or, All-push, filter_map-append}
 use Rattle.std.proofs.lemmas.Option.{same_Some, slice_get-get_or, slice_get-map, slice_get_within}
@@ -21,14 +20,14 @@ use Rattle.ring_box.specs.Acting.{IsReach, Reach, force_of, length_of, limit_of}
 use Rattle.ring_box.specs.Distances.{distance_at, square_of, x_separation, y_separation, z_separation}
 use Rattle.ring_box.specs.FloatReaches.{IsFilter, IsReachSlack, taken_at}
 use Rattle.ring_box.specs.FloatRows.{IsWithFour}
-use Rattle.ring_box.specs.FloatSeparations.{IsNearSeparation, squares_of}
+use Rattle.ring_box.specs.FloatSeparations.{AreShort, IsNearSeparation, squares_of}
 use Rattle.ring_box.specs.Forces.{component_of, line_force_of}
-use Rattle.ring_box.specs.FoundPairs.{AreApart, AreExactPut, AreExactlyMeasured, AreFourForces, AreForcesBefore, AreFourMeasured, AreFourPut, AreHeld, AreInReach, AreMeasured, AreMeasuredBefore, AreNearLengths, AreNearPairs, FoundPairs, IsBelowLimit, IsForceAt, IsMeasured, IsNearPair, force_of_four, found_among, found_at, found_from, found_pair_of, line_force_on, squared}
+use Rattle.ring_box.specs.FoundPairs.{AreApart, AreExactPut, AreExactlyMeasured, AreFourForces, AreForcesBefore, AreFourMeasured, AreFourPut, AreHeld, AreInReach, AreMeasured, AreMeasuredBefore, AreNearLengths, AreNearPairs, FoundPairs, IsBelowLimit, IsForceAt, IsMeasured, IsNearPair, PairInReach, force_of_four, found_among, found_at, found_from, found_pair_of, line_force_on, scaled, squared}
 use Rattle.ring_box.specs.Places.{places_of}
 use Rattle.ring_box.specs.PairForces.{IsWithForce, IsWithForces, force_in}
 use Rattle.ring_box.specs.declared.boxes.RingBox.{RingBox}
 use Rattle.ring_box.specs.declared.found_pairs.FoundPair.{FoundPair}
-use Rattle.ring_box.specs.declared.found_pairs.PairInReach.{PairInReach}
+use Rattle.ring_box.specs.declared.found_pairs.GridPair.{GridPair}
 use Rattle.ring_box.specs.declared.pair_forces.PairForces.{PairForces}
 use Rattle.ring_box.specs.declared.pairs.AtomPair.{AtomPair}
 use Rattle.ring_box.specs.declared.separations.FloatSeparation.{FloatSeparation}
@@ -105,10 +104,10 @@ counted_held d n pairs x y z squares v a b c s near e room is are = record {
 }
 
 -- lanes without a pair
-pub none_held : (d : Reach) (n : ℕ) (pairs : List PairInReach) (x y z squares : List Float) → AreHeld d n pairs x y z squares → AreHeld d 0 pairs x y z squares
-none_held d n pairs x y z squares are = record {
+pub none_held : (d : Reach) (n : ℕ) (old new : List PairInReach) (x y z squares : List Float) → length new ≡ length old → AreHeld d n old x y z squares → AreHeld d 0 new x y z squares
+none_held d n old new x y z squares same are = record {
   held = record {
-    lanes = are.held.lanes;
+    lanes = same ∙ are.held.lanes;
     few = omega arith;
     near = λ k p lt. absurd (omega (arith, lt));
   };
@@ -132,10 +131,10 @@ none_measured d n pairs lengths apart distances = record {
 
 -- storing a pair's record and counting it if it is within reach adds the found pair of the two atoms
 pub counted_acts : (d : Reach) (b : RingBox) (p q : Place3) (n : ℕ) (pairs : List PairInReach) (v : PairInReach) (near : Bool) → IsReach d → ltb (squared v) (limit_of d.frac d.cutoff) ≡ near →
-    v.separation.x ≡ x_separation b p q → v.separation.y ≡ y_separation b p q → v.separation.z ≡ z_separation b p q → n < length pairs →
+    v.x ≡ x_separation b p q → v.y ≡ y_separation b p q → v.z ≡ z_separation b p q → n < length pairs →
     map (found_from d) (take (n + from_bool near) (set pairs n v)) ≡ map (found_from d) (take n pairs) ++ option_to_list (found_pair_of d b v.low v.high p q)
 counted_acts d b p q n pairs v true is e x y z room =
-    rw (← acts d b p q (squared v) (length_of (squared v)) v.separation.x v.separation.y v.separation.z (int_max (pos (distance_at d.frac (squared v))) d.core) is x y z refl (ltb-true _ _ e) refl refl, take_more_set pairs n v room, map-append (found_from d) (take n pairs) (v ∷ [])) refl
+    rw (← acts d b p q (squared v) (length_of (squared v)) v.x v.y v.z (int_max (pos (distance_at d.frac (squared v))) d.core) is x y z refl (ltb-true _ _ e) refl refl, take_more_set pairs n v room, map-append (found_from d) (take n pairs) (v ∷ [])) refl
 counted_acts d b p q n pairs v false is e x y z room =
     let s : squared v ≡ square_of b p q = rw (x, y, z) refl in
     rw (← idle d b p q (squared v) is s (ltb-false _ _ e), uncounted n, take-set pairs n v, append-nil (map (found_from d) (take n pairs))) refl
@@ -156,8 +155,8 @@ no_pair = record { low = 0; high = 0 }
 -- if the counted pairs are the pairs found among the first k of a list, they are so with one more pair of the list
 pub filled_more : (d : Reach) (b : RingBox) (frame : List Place3) (near : List AtomPair) (k n : ℕ) (pairs : List PairInReach) (v : PairInReach) (is_near : Bool) → IsReach d → ltb (squared v) (limit_of d.frac d.cutoff) ≡ is_near
     → (here : AtomPair) → here ≡ get_or near k no_pair → k < length near → n < length pairs → v.low ≡ here.low → v.high ≡ here.high
-    → v.separation.x ≡ x_separation b (places_of frame here.low) (places_of frame here.high) → v.separation.y ≡ y_separation b (places_of frame here.low) (places_of frame here.high)
-    → v.separation.z ≡ z_separation b (places_of frame here.low) (places_of frame here.high)
+    → v.x ≡ x_separation b (places_of frame here.low) (places_of frame here.high) → v.y ≡ y_separation b (places_of frame here.low) (places_of frame here.high)
+    → v.z ≡ z_separation b (places_of frame here.low) (places_of frame here.high)
     → map (found_from d) (take n pairs) ≡ found_among d b frame (take k near)
     → map (found_from d) (take (n + from_bool is_near) (set pairs n v)) ≡ found_among d b frame (take (k + 1) near)
 filled_more d b frame near k n pairs v is_near is e here at lt room low high x y z found =
@@ -170,14 +169,6 @@ filled_more d b frame near k n pairs v is_near is e here at lt room low high x y
     ∙ (sym (found_push d b frame (take k near) here) ∙ ap (found_among d b frame) (sym next)))
 
 -- ---- distances
-
--- a square is below 2^112
-pub squared_bound : (p : PairInReach) → squared p < 2 ^ 112
-squared_bound p =
-    let x = p.separation.x_bound in
-    let y = p.separation.y_bound in
-    let z = p.separation.z_bound in
-    omega (arith, mul-le _ _ _ _ x x, mul-le _ _ _ _ y y, mul-le _ _ _ _ z z)
 
 -- the pair in a lane is within reach
 pub below_at : (d : Reach) (n : ℕ) (pairs : List PairInReach) (l : ℕ) (p : PairInReach) → AreInReach d n pairs → l < n → squared (get_or pairs l p) < limit_of d.frac d.cutoff
@@ -252,17 +243,17 @@ measured_more d n pairs old new four i from to both kept put l p lt here =
     ]
 
 -- lengths from squares
-pub near_all : (d : Reach) (n : ℕ) (pairs : List PairInReach) (x y z squares lengths : List Float) → AreHeld d n pairs x y z squares
+pub near_all : (d : Reach) (n : ℕ) (pairs : List PairInReach) (x y z squares lengths : List Float) → limit_of d.frac d.cutoff ≤ 2 ^ 112 → AreHeld d n pairs x y z squares
     → ((l s : ℕ) → l < n → s ≤ 2 ^ 200 → IsNear 5 (slice_index_or squares l nan) s 1 → IsNearRoot 7 (slice_index_or lengths l nan) s 1) → AreNearLengths n pairs lengths
-near_all d n pairs x y z squares lengths are roots l p lt =
+near_all d n pairs x y z squares lengths fits are roots l p lt =
     let s = squared (get_or pairs l p) in
-    roots l s lt (omega (arith, squared_bound (get_or pairs l p))) (are.floats.near l p lt).square
+    roots l s lt (omega (arith, fits, below_at d n pairs l p are.held lt)) (are.floats.near l p lt).square
 
 -- ---- forces
 
 -- two atoms at one position, for lanes without a pair
 pub nothing : PairInReach
-nothing = record { low = 0; high = 0; separation = record { x = pos 0; y = pos 0; z = pos 0; x_bound = omega arith; y_bound = omega arith; z_bound = omega arith } }
+nothing = record { low = 0; high = 0; x = pos 0; y = pos 0; z = pos 0 }
 
 -- the pair at an index is found from the pair in its lane
 pub pair_at : (d : Reach) (n : ℕ) (pairs : List PairInReach) (l : ℕ) (p : PairInReach) (f : FoundPair) → AreInReach d n pairs → slice_get (map (found_from d) (take n pairs)) l ≡ Some f → (l < n) × (found_from d (get_or pairs l p) ≡ f)
@@ -278,11 +269,11 @@ component_found : (g a : ℤ) (s : ℕ) (v : ℤ) → 0 < s → IsFloor (g *ℤ 
 component_found g a s v some is = rw (length_apart s some) (floor_of_unique (g *ℤ a) (pos (root s)) v is)
 
 -- the lane of a pair has a line
-pub line_at : (d : Reach) (p : PairInReach) (a : ℤ) (length x slack : Float) → 0 < squared p → squared p < limit_of d.frac d.cutoff → unsigned_abs a * unsigned_abs a ≤ squared p → IsNearRoot 7 length (squared p) 1 → IsNearInteger 1 x a → IsReachSlack d slack
+pub line_at : (d : Reach) (p : PairInReach) (a : ℤ) (length x slack : Float) → limit_of d.frac d.cutoff ≤ 2 ^ 112 → 0 < squared p → squared p < limit_of d.frac d.cutoff → unsigned_abs a * unsigned_abs a ≤ squared p → IsNearRoot 7 length (squared p) 1 → IsNearInteger 1 x a → IsReachSlack d slack
     → IsLine (squared p) a length x slack
-line_at d p a length x slack some below side near part enough = record {
+line_at d p a length x slack fits some below side near part enough = record {
   some = some;
-  short = squared_bound p;
+  short = omega (arith, fits, below);
   side = side;
   length_near = near;
   part_near = part;
@@ -290,12 +281,12 @@ line_at d p a length x slack some below side near part enough = record {
 }
 
 -- a component that floating-point arithmetic found
-component_at : (d : Reach) (p : PairInReach) (a slope : ℤ) (k : ℕ) (slopes : List ℤ) (lengths xs : List Float) (slack : Float) (v : List ℤ) (length x : Float) → k < 4
+component_at : (d : Reach) (p : PairInReach) (a slope : ℤ) (k : ℕ) (slopes : List ℤ) (lengths xs : List Float) (slack : Float) (v : List ℤ) (length x : Float) → limit_of d.frac d.cutoff ≤ 2 ^ 112 → k < 4
     → 0 < squared p → squared p < limit_of d.frac d.cutoff → unsigned_abs a * unsigned_abs a ≤ squared p → IsNearRoot 7 length (squared p) 1 → IsNearInteger 1 x a → IsReachSlack d slack
     → get_or slopes k (pos 0) ≡ slope → lane lengths k ≡ length → lane xs k ≡ x → AreComponents slopes lengths xs slack v
     → get_or v k (pos 0) ≡ component_of (neg_ℤ slope) a (length_of (squared p))
-component_at d p a slope k slopes lengths xs slack v length x lt some below side near part enough es el ex are =
-    let line = line_at d p a (lane lengths k) (lane xs k) slack some below side (subst (λ (y : Float). IsNearRoot 7 y (squared p) 1) (sym el) near) (subst (λ (y : Float). IsNearInteger 1 y a) (sym ex) part) enough in
+component_at d p a slope k slopes lengths xs slack v length x fits lt some below side near part enough es el ex are =
+    let line = line_at d p a (lane lengths k) (lane xs k) slack fits some below side (subst (λ (y : Float). IsNearRoot 7 y (squared p) 1) (sym el) near) (subst (λ (y : Float). IsNearInteger 1 y a) (sym ex) part) enough in
     component_found (neg_ℤ slope) a (squared p) (get_or v k (pos 0)) some
     (subst (λ (m : ℤ). IsFloor (neg_ℤ m *ℤ a) (pos (root (squared p))) (get_or v k (pos 0))) es (are.each k lt (squared p) a line))
 
@@ -305,11 +296,11 @@ AreLanesFrom l row four = (k : ℕ) → k < 4 → lane four k ≡ lane row (l + 
 
 -- forces that floating-point arithmetic found for the lanes from l on
 pub four_found : (d : Reach) (n : ℕ) (pairs : List PairInReach) (x y z squares lengths : List Float) (slopes : List ℤ) (l : ℕ) (slack : Float) (slope_four : List ℤ) (length_four x_four y_four z_four : List Float)
-    → AreHeld d n pairs x y z squares → AreNearLengths n pairs lengths → AreApart n pairs → IsReachSlack d slack
+    → limit_of d.frac d.cutoff ≤ 2 ^ 112 → AreHeld d n pairs x y z squares → AreNearLengths n pairs lengths → AreApart n pairs → IsReachSlack d slack
     → ((k : ℕ) → k < 4 → slice_index_or slope_four k (pos 0) ≡ slice_index_or slopes (l + k) (pos 0)) → AreLanesFrom l lengths length_four → AreLanesFrom l x x_four → AreLanesFrom l y y_four → AreLanesFrom l z z_four
     → (v : FourForces) → AreComponents slope_four length_four x_four slack v.x → AreComponents slope_four length_four y_four slack v.y → AreComponents slope_four length_four z_four slack v.z
     → AreFourForces (map (found_from d) (take n pairs)) slopes l v
-four_found d n pairs x y z squares lengths slopes l slack slope_four length_four x_four y_four z_four are near apart enough es el ex ey ez v cx cy cz k lt f at =
+four_found d n pairs x y z squares lengths slopes l slack slope_four length_four x_four y_four z_four fits are near apart enough es el ex ey ez v cx cy cz k lt f at =
     let p = get_or pairs (l + k) nothing in
     let inside = (pair_at d n pairs (l + k) nothing f are.held at).0 in
     let floats = are.floats.near (l + k) nothing inside in
@@ -317,9 +308,9 @@ four_found d n pairs x y z squares lengths slopes l slack slope_four length_four
     let below = below_at d n pairs (l + k) nothing are.held inside in
     let length_near = near (l + k) nothing inside in
     let g = slice_index_or slopes (l + k) (pos 0) in
-    let vx = component_at d p p.separation.x g k slope_four length_four x_four slack v.x _ _ lt some below (omega arith) length_near floats.x enough (es k lt) (el k lt) (ex k lt) cx in
-    let vy = component_at d p p.separation.y g k slope_four length_four y_four slack v.y _ _ lt some below (omega arith) length_near floats.y enough (es k lt) (el k lt) (ey k lt) cy in
-    let vz = component_at d p p.separation.z g k slope_four length_four z_four slack v.z _ _ lt some below (omega arith) length_near floats.z enough (es k lt) (el k lt) (ez k lt) cz in
+    let vx = component_at d p p.x g k slope_four length_four x_four slack v.x _ _ fits lt some below (omega arith) length_near floats.x enough (es k lt) (el k lt) (ex k lt) cx in
+    let vy = component_at d p p.y g k slope_four length_four y_four slack v.y _ _ fits lt some below (omega arith) length_near floats.y enough (es k lt) (el k lt) (ey k lt) cy in
+    let vz = component_at d p p.z g k slope_four length_four z_four slack v.z _ _ fits lt some below (omega arith) length_near floats.z enough (es k lt) (el k lt) (ez k lt) cz in
     let e : force_of_four v k ≡ line_force_on p (neg_ℤ g) = rw (vx, vy, vz) refl in
     e ∙ line_force_at d n pairs (l + k) nothing f (neg_ℤ g) are.held at
 
@@ -360,20 +351,24 @@ forces_more pairs slopes i from to are put l lt f at =
 -- ---- floats near a pair
 
 -- the floats of two atoms are near their pair
-pub near_pair : (b : RingBox) (p q : Place3) (v : PairInReach) (near : FloatSeparation) (s : Float) → v.separation.x ≡ x_separation b p q → v.separation.y ≡ y_separation b p q → v.separation.z ≡ z_separation b p q
-    → IsNearSeparation (x_separation b p q) (y_separation b p q) (z_separation b p q) near
+pub near_pair : (b : RingBox) (v : GridPair) (near : FloatSeparation) (s : Float) → IsNearSeparation (v.grid.x *ℤ pos b.x) (v.grid.y *ℤ pos b.y) (v.grid.z *ℤ pos b.z) near
+    → AreShort (v.grid.x *ℤ pos b.x) (v.grid.y *ℤ pos b.y) (v.grid.z *ℤ pos b.z)
     → ((a b c : ℤ) → unsigned_abs a ≤ 2 ^ 90 → unsigned_abs b ≤ 2 ^ 90 → unsigned_abs c ≤ 2 ^ 90 → IsNearSeparation a b c near → IsNear 5 s (squares_of a b c) 1)
-    → IsNearPair v near.x near.y near.z s
-near_pair b p q v near s x y z is squares =
-    let nx : IsNearInteger 1 near.x v.separation.x = rw x is.x in
-    let ny : IsNearInteger 1 near.y v.separation.y = rw y is.y in
-    let nz : IsNearInteger 1 near.z v.separation.z = rw z is.z in
-    record {
-      x = nx;
-      y = ny;
-      z = nz;
-      square = squares v.separation.x v.separation.y v.separation.z (omega (arith, v.separation.x_bound)) (omega (arith, v.separation.y_bound)) (omega (arith, v.separation.z_bound)) (record { x = nx; y = ny; z = nz });
-    }
+    → IsNearPair (scaled b v) near.x near.y near.z s
+near_pair b v near s is short squares = record {
+  x = is.x;
+  y = is.y;
+  z = is.z;
+  square = squares (v.grid.x *ℤ pos b.x) (v.grid.y *ℤ pos b.y) (v.grid.z *ℤ pos b.z) short.x short.y short.z is;
+}
+
+-- two atoms at one position, for an index past the end of a row
+abbrev pub no_grid_pair : GridPair
+no_grid_pair = record { low = 0; high = 0; grid = record { x = pos 0; y = pos 0; z = pos 0 } }
+
+-- the pair in a lane, from the pair that is stored there in grid units
+pub scaled_at : (b : RingBox) (pairs : List GridPair) (l : ℕ) → l < length pairs → get_or (map (scaled b) pairs) l (scaled b no_grid_pair) ≡ scaled b (get_or pairs l no_grid_pair)
+scaled_at b pairs l room = get_or-map (scaled b) pairs l no_grid_pair (scaled b no_grid_pair) room
 
 -- ---- reading
 
@@ -419,5 +414,5 @@ exact_all pairs slopes n l k from to size (inr h) are = record {
 }
 
 -- a force along a line with the numbers of a pair
-pub line_force_same : (p : PairInReach) (g h x y z : ℤ) (s l : ℕ) → g ≡ h → x ≡ p.separation.x → y ≡ p.separation.y → z ≡ p.separation.z → s ≡ squared p → l ≡ length_of s → line_force_of g x y z l ≡ line_force_on p h
+pub line_force_same : (p : PairInReach) (g h x y z : ℤ) (s l : ℕ) → g ≡ h → x ≡ p.x → y ≡ p.y → z ≡ p.z → s ≡ squared p → l ≡ length_of s → line_force_of g x y z l ≡ line_force_on p h
 line_force_same p g h x y z s l eg ex ey ez es el = rw (eg, ex, ey, ez, el, es) refl

@@ -1,5 +1,5 @@
 -- Batches of interacting pairs, stored contiguously.
-use Rattle.std.specs.Prelude.{ℕ, ℤ, pos, Bool, ◌≡◌, ◌+◌, ◌≤◌, ◌<◌, ◌^◌, List, length, take, slice_get, slice_index_or, neg_ℤ, unsigned_abs, Option, Some, option_map, filter_map, IsTrue}
+use Rattle.std.specs.Prelude.{ℕ, ℤ, pos, Bool, ◌≡◌, ◌+◌, ◌≤◌, ◌<◌, ◌^◌, ◌*ℤ◌, List, length, take, slice_get, slice_index_or, neg_ℤ, unsigned_abs, Option, Some, option_map, filter_map, IsTrue}
 use Rattle.std.specs.Float.Ieee.{Float}
 use Rattle.std.specs.List.{All}
 use Rattle.float_filters.specs.Floors.{lane}
@@ -12,7 +12,7 @@ use Rattle.ring_box.specs.PairForces.{force_in}
 use Rattle.ring_box.specs.Places.{places_of}
 use Rattle.ring_box.specs.declared.boxes.RingBox.{RingBox}
 use Rattle.ring_box.specs.declared.found_pairs.FoundPair.{FoundPair}
-use Rattle.ring_box.specs.declared.found_pairs.PairInReach.{PairInReach}
+use Rattle.ring_box.specs.declared.found_pairs.GridPair.{GridPair}
 use Rattle.float_filters.specs.declared.force_lanes.FourForces.{FourForces}
 use Rattle.ring_box.specs.declared.pair_forces.PairForces.{PairForces}
 use Rattle.ring_box.specs.declared.pairs.AtomPair.{AtomPair}
@@ -77,14 +77,27 @@ pub record AreExactPut (pairs : List FoundPair) (slopes : List ℤ) (l k : ℕ) 
 
 -- ---- the representation
 
+-- two atoms by their indices, and their separation along each axis
+pub record PairInReach : Type 0 where
+  pub low : ℕ
+  pub high : ℕ
+  pub x : ℤ
+  pub y : ℤ
+  pub z : ℤ
+
+-- the pair whose separation is stored in grid units
+abbrev pub scaled : RingBox → GridPair → PairInReach
+scaled b p =
+    record { low = p.low; high = p.high; x = p.grid.x *ℤ pos b.x; y = p.grid.y *ℤ pos b.y; z = p.grid.z *ℤ pos b.z }
+
 -- the square of a pair's separation
 abbrev pub squared : PairInReach → ℕ
-squared p = squares_of p.separation.x p.separation.y p.separation.z
+squared p = squares_of p.x p.y p.z
 
 -- the geometry of a pair, from its separation
 abbrev pub found_from : Reach → PairInReach → FoundPair
 found_from d p =
-    record { low = p.low; high = p.high; acting = acting_from d p.separation.x p.separation.y p.separation.z (squared p) }
+    record { low = p.low; high = p.high; acting = acting_from d p.x p.y p.z (squared p) }
 
 abbrev pub IsBelowLimit : Reach → PairInReach → Type 0
 IsBelowLimit d p = squared p < limit_of d.frac d.cutoff
@@ -97,9 +110,9 @@ pub record AreInReach (d : Reach) (count : ℕ) (pairs : List PairInReach) : Typ
 
 -- the floats are near the components of the pair's separation and their sum of squares
 pub record IsNearPair (p : PairInReach) (a b c s : Float) : Type 0 where
-  pub x : IsNearInteger 1 a p.separation.x
-  pub y : IsNearInteger 1 b p.separation.y
-  pub z : IsNearInteger 1 c p.separation.z
+  pub x : IsNearInteger 1 a p.x
+  pub y : IsNearInteger 1 b p.y
+  pub z : IsNearInteger 1 c p.z
   pub square : IsNear 5 s (squared p) 1
 
 -- the first `count` of 128 lanes hold floats for the pairs
@@ -162,4 +175,4 @@ pub record AreMeasured (d : Reach) (count : ℕ) (pairs : List PairInReach) (len
 
 -- the force of the size g on the first atom of a pair, along its line
 abbrev pub line_force_on : PairInReach → ℤ → Vector ℤ
-line_force_on p g = line_force_of g p.separation.x p.separation.y p.separation.z (length_of (squared p))
+line_force_on p g = line_force_of g p.x p.y p.z (length_of (squared p))

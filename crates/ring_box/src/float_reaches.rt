@@ -2,10 +2,11 @@
 
 ghost use Rattle.std.specs.Prelude.{◌≡◌, nat_lt};
 ghost use Rattle.float_filters.specs.Near.{IsNear};
-ghost use Rattle.ring_box.specs.FloatSeparations.{squares_of};
+ghost use Rattle.ring_box.specs.FloatSeparations.{grid_square};
 
+use crate::boxes::RingBox;
 use crate::reaches::Reach;
-use crate::separations::Separation;
+use crate::separations::GridSeparation;
 use float_filters::{FloatLimit, around, near_reach};
 
 /// The limit of squares and its root in floating point: an interval around the limit, and a float near the root.
@@ -33,25 +34,31 @@ impl Reach {
     /// Whether a separation's square is below the limit, in exact arithmetic.
     #[cold]
     #[inline(never)]
-    fn is_in_reach(&self, separation: &Separation) -> bool
-        ensures { result ≡ nat_lt (squares_of separation.now.x separation.now.y separation.now.z) (limit_of self.now.frac self.now.cutoff) }
+    fn is_in_reach(&self, ring: &RingBox, grid: &GridSeparation) -> bool
+        ensures { result ≡ nat_lt (grid_square ring.now grid.now) (limit_of self.now.frac self.now.cutoff) }
     {
-        separation.square() < self.limit()
+        ring.scaled(*grid).square() < self.limit()
     }
 
     /// Whether a separation's square is below the limit; the float `square` is near it. Exact arithmetic decides only
     /// next to the limit.
     #[inline(always)]
-    pub(crate) fn reaches(&self, near: FloatReach, square: f64, separation: &Separation) -> bool
+    pub(crate) fn reaches(
+        &self,
+        near: FloatReach,
+        square: f64,
+        ring: &RingBox,
+        grid: &GridSeparation,
+    ) -> bool
         requires reach { IsNearReach self.now near }
-        requires square { IsNear 5 square (squares_of separation.now.x separation.now.y separation.now.z) 1 }
-        ensures { result ≡ nat_lt (squares_of separation.now.x separation.now.y separation.now.z) (limit_of self.now.frac self.now.cutoff) }
+        requires square { IsNear 5 square (grid_square ring.now grid.now) 1 }
+        ensures { result ≡ nat_lt (grid_square ring.now grid.now) (limit_of self.now.frac self.now.cutoff) }
     {
         let verdict = near.limit.compare(square);
         if verdict.sure {
             verdict.below
         } else {
-            self.is_in_reach(separation)
+            self.is_in_reach(ring, grid)
         }
     }
 }

@@ -1,8 +1,8 @@
 //! Batches of interacting pairs, stored contiguously, so that each stage runs for all pairs of a batch before the next
 //! stage.
 
-ghost use Rattle.std.specs.Prelude.{◌≡◌, ◌+◌, ◌<◌, ◌≤◌, ◌^◌, IsTrue, Some, length, neg_ℤ, slice_get, unsigned_abs};
-ghost use Rattle.ring_box.specs.Distances.{x_separation, y_separation, z_separation};
+ghost use Rattle.std.specs.Prelude.{◌≡◌, ◌+◌, ◌<◌, ◌≤◌, ◌^◌, IsTrue, Some, length, map, neg_ℤ, slice_get, unsigned_abs};
+ghost use Rattle.ring_box.specs.FoundPairs.{scaled};
 
 use crate::acting::ActingPair;
 use crate::boxes::RingBox;
@@ -12,7 +12,8 @@ use crate::lines::length_near;
 use crate::pair_forces::PairForces;
 use crate::pairs::AtomPair;
 use crate::reaches::Reach;
-use crate::separations::{FloatSeparation, Separation};
+use crate::separations::{GridSeparation, grid_separation};
+use crate::sides::Side;
 use crate::vectors::{Place3, Vector};
 use fixed::{Frac, Fx, floor_estimate};
 use float_filters::{FourForces, force_slack, forces, four, near_lengths};
@@ -26,30 +27,12 @@ pub struct FoundPair {
     pub acting: ActingPair,
 }
 
-/// Two atoms by their indices, and their separation.
+/// Two atoms by their indices, and their separation in grid units.
 #[derive(Clone, Copy)]
-pub(crate) struct PairInReach {
+pub(crate) struct GridPair {
     pub low: u32,
     pub high: u32,
-    pub separation: Separation,
-}
-
-impl RingBox {
-    /// The pair of two atoms at `p` and `q` with these indices.
-    #[inline(always)]
-    fn numbered(&self, low: u32, high: u32, p: Place3, q: Place3) -> PairInReach
-        ensures low { result.low ≡ low }
-        ensures high { result.high ≡ high }
-        ensures x { result.separation.x ≡ x_separation self.now p q }
-        ensures y { result.separation.y ≡ y_separation self.now p q }
-        ensures z { result.separation.z ≡ z_separation self.now p q }
-    {
-        PairInReach {
-            low,
-            high,
-            separation: self.separation(p, q),
-        }
-    }
+    pub grid: GridSeparation,
 }
 
 // ---- exact arithmetic
@@ -65,11 +48,11 @@ impl Reach {
 
     /// The distance at which the force of a pair is evaluated, and whether its atoms are at different positions. `length`
     /// is an estimate of the length of its line.
-    fn exact_distance(&self, pair: PairInReach, length: f64) -> (Fx, bool)
-        requires { IsBelowLimit self.now pair }
-        ensures { IsMeasured self.now pair result.1 result.0 }
+    fn exact_distance(&self, ring: &RingBox, pair: GridPair, length: f64) -> (Fx, bool)
+        requires { IsBelowLimit self.now (scaled ring.now pair) }
+        ensures { IsMeasured self.now (scaled ring.now pair) result.1 result.0 }
     {
-        let s = pair.separation.square();
+        let s = ring.scaled(pair.grid).square();
         let estimate = floor_estimate(length).cast_unsigned();
         (self.distance(s, length_near(s, estimate)), s != 0)
     }
@@ -81,19 +64,20 @@ impl Reach {
     #[inline(never)]
     fn find_exact_distances(
         &self,
-        pairs: &[PairInReach; 128],
+        ring: &RingBox,
+        pairs: &[GridPair; 128],
         lengths: &[f64; 128],
         first: usize,
         count: usize,
         distances: &mut [i64; 128],
     ) -> bool
         requires room { first + 4 ≤ 128 }
-        requires pairs { AreInReach self.now count pairs.now }
-        ensures { AreFourMeasured self.now count pairs.now first result distances.old distances.new }
+        requires pairs { AreInReach self.now count (map (scaled ring.now) pairs.now) }
+        ensures { AreFourMeasured self.now count (map (scaled ring.now) pairs.now) first result distances.old distances.new }
     {
         let mut apart = true;
         for l in first..count.min(first + 4) {
-            let (distance, is_apart) = self.exact_distance(pairs[l], lengths[l]);
+            let (distance, is_apart) = self.exact_distance(ring, pairs[l], lengths[l]);
             distances[l] = distance.raw();
             apart = both(apart, is_apart);
         }
@@ -104,15 +88,16 @@ impl Reach {
     /// of their lines. Returns whether the atoms of each pair are at different positions.
     fn find_distances(
         &self,
-        pairs: &[PairInReach; 128],
+        ring: &RingBox,
+        pairs: &[GridPair; 128],
         lengths: &[f64; 128],
         count: usize,
         distances: &mut [i64; 128],
     ) -> bool
-        requires pairs { AreInReach self.now count pairs.now }
-        requires lengths { AreNearLengths count pairs.now lengths.now }
-        ensures taken { AreTaken self.now count pairs.now distances.new }
-        ensures apart { IsTrue result → AreApart count pairs.now }
+        requires pairs { AreInReach self.now count (map (scaled ring.now) pairs.now) }
+        requires lengths { AreNearLengths count (map (scaled ring.now) pairs.now) lengths.now }
+        ensures taken { AreTaken self.now count (map (scaled ring.now) pairs.now) distances.new }
+        ensures apart { IsTrue result → AreApart count (map (scaled ring.now) pairs.now) }
     {
         let filter = self.filter();
         let mut apart = true;
@@ -121,6 +106,7 @@ impl Reach {
                 Some(found) => put_four(distances, 4 * i, found),
                 None => {
                     let are_apart = self.find_exact_distances(
+                        ring,
                         pairs,
                         lengths,
                         4 * i,
@@ -144,19 +130,18 @@ fn opposite(slope: Fx) -> i64
     -slope.raw()
 }
 
-impl PairInReach {
+impl GridPair {
     ghost use Rattle.ring_box.specs.FoundPairs.{line_force_on};
 
     /// The force on the first atom, given the derivative dU/dr, in exact arithmetic. `length` is an estimate of the
     /// length of the line.
-    fn exact_force(self, slope: Fx, length: f64) -> Vector<i64>
+    fn exact_force(self, ring: &RingBox, slope: Fx, length: f64) -> Vector<i64>
         requires { unsigned_abs slope < 2 ^ 63 }
-        ensures { result ≡ line_force_on self (neg_ℤ slope) }
+        ensures { result ≡ line_force_on (scaled ring.now self) (neg_ℤ slope) }
     {
         let estimate = floor_estimate(length).cast_unsigned();
-        let line = self
-            .separation
-            .line_near(self.separation.square(), estimate);
+        let separation = ring.scaled(self.grid);
+        let line = separation.line_near(separation.square(), estimate);
         let g = opposite(slope);
         line.force_near(g, line.force_estimate(g))
     }
@@ -173,8 +158,10 @@ impl PairInReach {
 pub struct FoundPairs {
     reach: Reach,
     near: FloatReach,
+    // the box in which the pairs were found
+    ring: RingBox,
     count: usize,
-    pairs: [PairInReach; 128],
+    pairs: [GridPair; 128],
     x: [f64; 128],
     y: [f64; 128],
     z: [f64; 128],
@@ -189,14 +176,18 @@ pub struct FoundPairs {
 impl Model for FoundPairs {
     ghost use Rattle.std.specs.Prelude.{map, take};
     ghost use Rattle.ring_box.specs.FloatReaches.{IsNearReach};
-    ghost use Rattle.ring_box.specs.FoundPairs.{AreHeld, AreMeasured, FoundPairs, found_from};
+    ghost use Rattle.ring_box.specs.FoundPairs.{AreHeld, AreMeasured, FoundPairs, found_from, scaled};
 
     ghost Value = { FoundPairs };
 
-    ghost view = { λ f. record { reach = f.reach; pairs = map (found_from f.reach) (take f.count f.pairs); measured = f.measured } };
+    ghost view = { λ f. record {
+      reach = f.reach;
+      pairs = map (found_from f.reach) (take f.count (map (scaled f.ring) f.pairs));
+      measured = f.measured;
+    } };
 
-    ghost invariant = { λ f. IsNearReach f.reach f.near × AreHeld f.reach f.count f.pairs f.x f.y f.z f.squares
-        × AreMeasured f.reach f.count f.pairs f.lengths f.measured f.apart f.distances };
+    ghost invariant = { λ f. IsNearReach f.reach f.near × AreHeld f.reach f.count (map (scaled f.ring) f.pairs) f.x f.y f.z f.squares
+        × AreMeasured f.reach f.count (map (scaled f.ring) f.pairs) f.lengths f.measured f.apart f.distances };
 }
 
 impl FoundPairs {
@@ -210,14 +201,20 @@ impl FoundPairs {
         ensures measured { result.measured ≡ 0 }
     {
         let reach = Reach::new(Frac::F32, Fx::from_raw(0), Fx::from_raw(1));
-        let none = PairInReach {
+        let side = Side::new(1);
+        let none = GridPair {
             low: 0,
             high: 0,
-            separation: Separation { x: 0, y: 0, z: 0 },
+            grid: GridSeparation { x: 0, y: 0, z: 0 },
         };
         FoundPairs {
             reach,
             near: reach.in_floats(),
+            ring: RingBox {
+                x: side,
+                y: side,
+                z: side,
+            },
             count: 0,
             pairs: [none; 128],
             x: [0.0; 128],
@@ -263,6 +260,7 @@ impl FoundPairs {
         let ring = *ring;
         let reach = self.reach;
         let float_reach = self.near;
+        self.ring = ring;
         self.measured = 0;
         let FoundPairs {
             pairs,
@@ -279,15 +277,15 @@ impl FoundPairs {
             let AtomPair { low, high } = near[k];
             let p = frame[low as usize];
             let q = frame[high as usize];
-            let pair = ring.numbered(low, high, p, q);
-            let floats = ring.float_separation(p, q);
+            let grid = grid_separation(p, q);
+            let floats = ring.float_scaled(grid);
             let square = floats.square();
-            pairs[l] = pair;
+            pairs[l] = GridPair { low, high, grid };
             x[l] = floats.x;
             y[l] = floats.y;
             z[l] = floats.z;
             squares[l] = square;
-            l += usize::from(reach.reaches(float_reach, square, &pairs[l].separation));
+            l += usize::from(reach.reaches(float_reach, square, &ring, &pairs[l].grid));
             k += 1;
         }
         *count = l;
@@ -300,9 +298,13 @@ impl FoundPairs {
     {
         let count = self.count;
         near_lengths(&self.squares, count, &mut self.lengths);
-        self.apart = self
-            .reach
-            .find_distances(&self.pairs, &self.lengths, count, &mut self.distances);
+        self.apart = self.reach.find_distances(
+            &self.ring,
+            &self.pairs,
+            &self.lengths,
+            count,
+            &mut self.distances,
+        );
         self.measured = count;
     }
 
@@ -359,7 +361,10 @@ impl FoundPairs {
         ensures { AreFourPut self.now.pairs slopes.now l forces.old forces.new }
     {
         for k in l..self.count.min(l + 4) {
-            forces.put(k, self.pairs[k].exact_force(slopes[k], self.lengths[k]));
+            forces.put(
+                k,
+                self.pairs[k].exact_force(&self.ring, slopes[k], self.lengths[k]),
+            );
         }
     }
 

@@ -1,16 +1,21 @@
-use Rattle.std.proofs.Common.{arith}
-use Rattle.ring_box.proofs.FoundLemmas.{atoms_held, seen_length}
+use Rattle.std.proofs.Common.{◌<◌, arith, length, map}
+use Rattle.std.proofs.lemmas.List.{length-map}
+use Rattle.ring_box.specs.FoundPairs.{scaled}
+use Rattle.ring_box.proofs.FoundLemmas.{atoms_held, no_grid_pair, scaled_at, seen_length}
 use Rattle.ring_box.proofs.found_pairs.FoundPairs.atoms.Goals as goal
 
 pub returns-clause-value : goal.returns-clause-value
 returns-clause-value c =
     let f = c.self.inside in
-    let size = seen_length f.reach f.count f.pairs f.measured c.args.self.now c.self.invariant.1.held c.self.view_is in
-    rw (← c.self.view_is) (atoms_held f.reach f.count f.pairs c.args.l c.index-pairs-l.result c.self.invariant.1.held (omega (arith, size, c.requires)))
+    let pairs = map (scaled f.ring) f.pairs in
+    let held = c.self.invariant.1.held in
+    let lt : c.args.l < f.count = omega (arith, seen_length f.reach f.count pairs f.measured c.args.self.now held c.self.view_is, c.requires) in
+    let room : c.args.l < length f.pairs = omega (arith, lt, held.few, held.lanes, length-map f.pairs (scaled f.ring)) in
+    rw (← c.self.view_is) (rw (scaled_at f.ring f.pairs c.args.l room) at (atoms_held f.reach f.count pairs c.args.l (scaled f.ring no_grid_pair) held lt))
 
 pub returns-clause-lane : goal.returns-clause-lane
 returns-clause-lane c =
     let f = c.self.inside in
     let held = c.self.invariant.1.held in
-    let size = seen_length f.reach f.count f.pairs f.measured c.args.self.now held c.self.view_is in
+    let size = seen_length f.reach f.count (map (scaled f.ring) f.pairs) f.measured c.args.self.now held c.self.view_is in
     omega (arith, size, held.few, c.requires)

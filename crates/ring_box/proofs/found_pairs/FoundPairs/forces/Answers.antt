@@ -1,8 +1,8 @@
-use Rattle.std.proofs.Common.{◌*◌, arith, subst}
+use Rattle.std.proofs.Common.{◌*◌, arith, map, subst}
 use Rattle.std.proofs.lemmas.Option.{slice_get_within}
 use Rattle.ring_box.specs.Acting.{limit_of}
 use Rattle.ring_box.specs.FloatReaches.{IsReachSlack}
-use Rattle.ring_box.specs.FoundPairs.{FoundPairs}
+use Rattle.ring_box.specs.FoundPairs.{FoundPairs, scaled}
 use Rattle.ring_box.proofs.FoundLemmas.{forces_more, four_put, seen_length}
 use Rattle.ring_box.proofs.found_pairs.FoundPairs.forces.Goals as goal
 use Rattle.ring_box.proofs.found_pairs.FoundPairs.forces.Goals.{in-Some, in-None}
@@ -28,5 +28,5 @@ loop-i-preserved c =
 pub returns : goal.returns
 returns c l f there =
     let i = c.self.inside in
-    let size = seen_length i.reach i.count i.pairs i.measured c.args.self.now c.self.invariant.1.held c.self.view_is in
+    let size = seen_length i.reach i.count (map (scaled i.ring) i.pairs) i.measured c.args.self.now c.self.invariant.1.held c.self.view_is in
     c.loop-i.invariant.done l (omega (arith, size, c.loop-i-test.false, slice_get_within c.args.self.now.pairs l f there)) f there

@@ -1,4 +1,5 @@
-use Rattle.std.proofs.Common.{◌*◌, true, arith, refl}
+use Rattle.std.proofs.Common.{◌*◌, true, arith, map, refl}
+use Rattle.ring_box.specs.FoundPairs.{scaled}
 use Rattle.ring_box.proofs.FoundLemmas.{four_measured, measured_more}
 use Rattle.ring_box.proofs.reaches.Reach.find_distances.Goals as goal
 use Rattle.ring_box.proofs.reaches.Reach.find_distances.Goals.{in-Some, in-None}
@@ -6,7 +7,7 @@ use Rattle.ring_box.proofs.reaches.Reach.find_distances.Goals.{in-Some, in-None}
 pub loop-i-preserved : goal.loop-i-preserved
 loop-i-preserved c =
     let d = c.args.self.now in
-    let pairs = c.args.pairs.now in
+    let pairs = map (scaled c.args.ring.now) c.args.pairs.now in
     let i = c.loop-i.i in
     let from = c.loop-i.distances in
     let old = c.loop-i.apart in
