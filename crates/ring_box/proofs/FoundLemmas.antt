@@ -1,10 +1,11 @@
 -- Pairs of atoms that interact, stored one after the other.
-use Rattle.std.proofs.Common.{◌≡◌, ◌≢◌, ◌∙◌, ℕ, ◌+◌, ◌-◌, ◌*◌, ◌^◌, ◌<◌, ◌≤◌, ◌⊎◌, inl, inr, ltb, Bool, true, false, List, [], ◌∷◌, ◌++◌, append-nil, ap₂, length, length-set, map, take, set, get_or, option_map, Option, Some, None, ℤ, pos, ap, sym, refl, arith, subst, neg_ℤ}
+use Rattle.std.proofs.Common.{◌≡◌, ◌≢◌, ◌∙◌, ℕ, ◌+◌, ◌-◌, ◌*◌, ◌^◌, ◌<◌, ◌≤◌, ◌⊎◌, inl, inr, ltb, Bool, true, false, List, [], ◌∷◌, ◌++◌, append-nil, ap₂, drop, length, length-set, map, take, set, get_or, option_map, Option, Some, None, ℤ, pos, ap, sym, refl, arith, subst, neg_ℤ}
 use Rattle.std.specs.Prelude.{filter_map, option_to_list, slice_get, slice_index_or, unsigned_abs, IfSome, IsTrue, ◌*ℤ◌}
 use Rattle.std.specs.Int.{from_bool, int_max}
 use Rattle.std.specs.Float.Ieee.{Float, nan}
 use Rattle.std.proofs.lemmas.Bool.{cases_eq, cases_lt, ltb-true, ltb-false}
-use Rattle.std.proofs.lemmas.List.{get_or-map, get_or-set_other, get_or-set_same, get_or-take, length-map, length-take-le, map-append, take-set, take_more, take_more_set}
+use Rattle.std.proofs.lemmas.List.{append_assoc, get_or-map, get_or-set_other, get_or-set_same, get_or-take, length-map, length-take-le, map-append, take-set, take_more, take_more_set}
+use Rattle.std.proofs.Math.Seq.{take-add}
 use Rattle.std.proofs.lemmas.List.Elements.{All-get_or, All-push, filter_map-append}
 use Rattle.std.proofs.lemmas.Option.{same_Some, slice_get-get_or, slice_get-map, slice_get_within}
 use Rattle.fixed.specs.Roots.{root}
@@ -73,7 +74,7 @@ counted d n pairs v false e room are = record {
   near = rw (uncounted n, take-set pairs n v) are.near;
 }
 
-counted_most : (n : ℕ) (near : Bool) → n + from_bool near ≤ n + 1
+pub counted_most : (n : ℕ) (near : Bool) → n + from_bool near ≤ n + 1
 counted_most n true = omega arith
 counted_most n false = omega arith
 
@@ -152,21 +153,26 @@ found_push d b frame near p =
 abbrev pub no_pair : AtomPair
 no_pair = record { low = 0; high = 0 }
 
--- if the counted pairs are the pairs found among the first k of a list, they are so with one more pair of the list
-pub filled_more : (d : Reach) (b : RingBox) (frame : List Place3) (near : List AtomPair) (k n : ℕ) (pairs : List PairInReach) (v : PairInReach) (is_near : Bool) → IsReach d → ltb (squared v) (limit_of d.frac d.cutoff) ≡ is_near
+-- if the counted pairs are some pairs and those found among the first k of a list, they are so with one more pair of the list
+pub appended_more : (d : Reach) (b : RingBox) (frame : List Place3) (near : List AtomPair) (k n : ℕ) (pairs : List PairInReach) (v : PairInReach) (is_near : Bool) (old : List FoundPair) → IsReach d → ltb (squared v) (limit_of d.frac d.cutoff) ≡ is_near
     → (here : AtomPair) → here ≡ get_or near k no_pair → k < length near → n < length pairs → v.low ≡ here.low → v.high ≡ here.high
     → v.x ≡ x_separation b (places_of frame here.low) (places_of frame here.high) → v.y ≡ y_separation b (places_of frame here.low) (places_of frame here.high)
     → v.z ≡ z_separation b (places_of frame here.low) (places_of frame here.high)
-    → map (found_from d) (take n pairs) ≡ found_among d b frame (take k near)
-    → map (found_from d) (take (n + from_bool is_near) (set pairs n v)) ≡ found_among d b frame (take (k + 1) near)
-filled_more d b frame near k n pairs v is_near is e here at lt room low high x y z found =
+    → map (found_from d) (take n pairs) ≡ old ++ found_among d b frame (take k near)
+    → map (found_from d) (take (n + from_bool is_near) (set pairs n v)) ≡ old ++ found_among d b frame (take (k + 1) near)
+appended_more d b frame near k n pairs v is_near old is e here at lt room low high x y z found =
     let p = places_of frame here.low in
     let q = places_of frame here.high in
     let last : found_pair_of d b v.low v.high p q ≡ found_at d b frame here = rw (low, high) refl in
     let next : take (k + 1) near ≡ take k near ++ here ∷ [] = rw at (take_more near k no_pair lt) in
     counted_acts d b p q n pairs v is_near is e x y z room
     ∙ (ap₂ (λ fs o. fs ++ option_to_list o) found last
-    ∙ (sym (found_push d b frame (take k near) here) ∙ ap (found_among d b frame) (sym next)))
+    ∙ (append_assoc old (found_among d b frame (take k near)) (option_to_list (found_at d b frame here))
+    ∙ ap (λ fs. old ++ fs) (sym (found_push d b frame (take k near) here) ∙ ap (found_among d b frame) (sym next))))
+
+-- the pairs found among the first k of a list and the next m
+pub found_next : (d : Reach) (b : RingBox) (frame : List Place3) (near : List AtomPair) (k m : ℕ) → found_among d b frame (take (k + m) near) ≡ found_among d b frame (take k near) ++ found_among d b frame (take m (drop k near))
+found_next d b frame near k m = ap (found_among d b frame) (take-add k m near) ∙ filter_map-append (found_at d b frame) (take k near) (take m (drop k near))
 
 -- ---- distances
 

@@ -1,5 +1,5 @@
 -- Batches of interacting pairs, stored contiguously.
-use Rattle.std.specs.Prelude.{ℕ, ℤ, pos, Bool, ◌≡◌, ◌+◌, ◌≤◌, ◌<◌, ◌^◌, ◌*ℤ◌, List, length, take, slice_get, slice_index_or, neg_ℤ, unsigned_abs, Option, Some, option_map, filter_map, IsTrue}
+use Rattle.std.specs.Prelude.{ℕ, ℤ, pos, Bool, ◌≡◌, ◌+◌, ◌≤◌, ◌<◌, ◌^◌, ◌*ℤ◌, List, length, map, take, slice_get, slice_index_or, neg_ℤ, unsigned_abs, Option, Some, option_map, filter_map, IsTrue}
 use Rattle.std.specs.Float.Ieee.{Float}
 use Rattle.std.specs.List.{All}
 use Rattle.float_filters.specs.Floors.{lane}
@@ -13,6 +13,7 @@ use Rattle.ring_box.specs.Places.{places_of}
 use Rattle.ring_box.specs.declared.boxes.RingBox.{RingBox}
 use Rattle.ring_box.specs.declared.found_pairs.FoundPair.{FoundPair}
 use Rattle.ring_box.specs.declared.found_pairs.GridPair.{GridPair}
+use Rattle.ring_box.specs.declared.found_pairs.PairLanes.{PairLanes}
 use Rattle.float_filters.specs.declared.force_lanes.FourForces.{FourForces}
 use Rattle.ring_box.specs.declared.pair_forces.PairForces.{PairForces}
 use Rattle.ring_box.specs.declared.pairs.AtomPair.{AtomPair}
@@ -127,6 +128,14 @@ pub record AreNearPairs (count : ℕ) (pairs : List PairInReach) (x y z squares 
 pub record AreHeld (d : Reach) (count : ℕ) (pairs : List PairInReach) (x y z squares : List Float) : Type 0 where
   pub held : AreInReach d count pairs
   pub floats : AreNearPairs count pairs x y z squares
+
+-- the first `count` lanes hold pairs within reach, and floats for them
+abbrev pub AreLanesHeld : Reach → RingBox → ℕ → PairLanes → Type 0
+AreLanesHeld d b count lanes = AreHeld d count (map (scaled b) lanes.pairs) lanes.x lanes.y lanes.z lanes.squares
+
+-- the pairs in the first `count` lanes
+abbrev pub found_in : Reach → RingBox → ℕ → PairLanes → List FoundPair
+found_in d b count lanes = map (found_from d) (take count (map (scaled b) lanes.pairs))
 
 -- the first `count` of `distances` are the distances at which the forces of the pairs are evaluated
 abbrev pub AreTaken : Reach → ℕ → List PairInReach → List ℤ → Type 0

@@ -147,6 +147,70 @@ impl GridPair {
     }
 }
 
+// ---- lanes
+
+/// Pairs that are tried, one lane for each: their separations in grid units, and floats near them and their squares.
+#[derive(Drop)]
+pub(crate) struct PairLanes {
+    pub pairs: [GridPair; 128],
+    pub x: [f64; 128],
+    pub y: [f64; 128],
+    pub z: [f64; 128],
+    pub squares: [f64; 128],
+}
+
+impl PairLanes {
+    ghost use Rattle.std.specs.Prelude.{◌++◌, All};
+    ghost use Rattle.ring_box.specs.FloatReaches.{IsNearReach};
+    ghost use Rattle.ring_box.specs.FoundPairs.{AreLanesHeld, found_among, found_in};
+
+    /// Appends the interacting pairs of a list of pairs of atoms to the first `count` lanes, which leave room for the
+    /// whole list. Returns the number of pairs. Each pair is written, and only counted if it interacts, so that there is
+    /// no branch to mispredict.
+    #[inline(always)]
+    fn append(
+        &mut self,
+        count: usize,
+        ring: &RingBox,
+        reach: &Reach,
+        float_reach: FloatReach,
+        frame: &[Place3],
+        near: &[AtomPair],
+    ) -> usize
+        requires inside { All (λ p. (p.low < length frame.now) × (p.high < length frame.now)) near.now }
+        requires reach { IsNearReach reach.now float_reach }
+        requires held { AreLanesHeld reach.now ring.now count self.old }
+        requires room { count + length near.now ≤ 128 }
+        ensures held { AreLanesHeld reach.now ring.now result self.new }
+        ensures found { found_in reach.now ring.now result self.new
+            ≡ found_in reach.now ring.now count self.old ++ found_among reach.now ring.now frame.now near.now }
+    {
+        let PairLanes {
+            pairs,
+            x,
+            y,
+            z,
+            squares,
+        } = self;
+        let mut l = count;
+        for k in 0..near.len() {
+            let AtomPair { low, high } = near[k];
+            let p = frame[low as usize];
+            let q = frame[high as usize];
+            let grid = grid_separation(p, q);
+            let floats = ring.float_scaled(grid);
+            let square = floats.square();
+            pairs[l] = GridPair { low, high, grid };
+            x[l] = floats.x;
+            y[l] = floats.y;
+            z[l] = floats.z;
+            squares[l] = square;
+            l += usize::from(reach.reaches(float_reach, square, ring, &pairs[l].grid));
+        }
+        l
+    }
+}
+
 // ---- found pairs
 
 /// A batch of at most 128 interacting pairs. Each stage runs for the whole batch: `fill` collects pairs, `measure`
@@ -161,11 +225,7 @@ pub struct FoundPairs {
     // the box in which the pairs were found
     ring: RingBox,
     count: usize,
-    pairs: [GridPair; 128],
-    x: [f64; 128],
-    y: [f64; 128],
-    z: [f64; 128],
-    squares: [f64; 128],
+    lanes: PairLanes,
     lengths: [f64; 128],
     measured: usize,
     // whether no measured pair has both atoms at one position
@@ -174,20 +234,16 @@ pub struct FoundPairs {
 }
 
 impl Model for FoundPairs {
-    ghost use Rattle.std.specs.Prelude.{map, take};
+    ghost use Rattle.std.specs.Prelude.{map};
     ghost use Rattle.ring_box.specs.FloatReaches.{IsNearReach};
-    ghost use Rattle.ring_box.specs.FoundPairs.{AreHeld, AreMeasured, FoundPairs, found_from, scaled};
+    ghost use Rattle.ring_box.specs.FoundPairs.{AreLanesHeld, AreMeasured, FoundPairs, found_in, scaled};
 
     ghost Value = { FoundPairs };
 
-    ghost view = { λ f. record {
-      reach = f.reach;
-      pairs = map (found_from f.reach) (take f.count (map (scaled f.ring) f.pairs));
-      measured = f.measured;
-    } };
+    ghost view = { λ f. record { reach = f.reach; pairs = found_in f.reach f.ring f.count f.lanes; measured = f.measured } };
 
-    ghost invariant = { λ f. IsNearReach f.reach f.near × AreHeld f.reach f.count (map (scaled f.ring) f.pairs) f.x f.y f.z f.squares
-        × AreMeasured f.reach f.count (map (scaled f.ring) f.pairs) f.lengths f.measured f.apart f.distances };
+    ghost invariant = { λ f. IsNearReach f.reach f.near × AreLanesHeld f.reach f.ring f.count f.lanes
+        × AreMeasured f.reach f.count (map (scaled f.ring) f.lanes.pairs) f.lengths f.measured f.apart f.distances };
 }
 
 impl FoundPairs {
@@ -216,11 +272,13 @@ impl FoundPairs {
                 z: side,
             },
             count: 0,
-            pairs: [none; 128],
-            x: [0.0; 128],
-            y: [0.0; 128],
-            z: [0.0; 128],
-            squares: [0.0; 128],
+            lanes: PairLanes {
+                pairs: [none; 128],
+                x: [0.0; 128],
+                y: [0.0; 128],
+                z: [0.0; 128],
+                squares: [0.0; 128],
+            },
             lengths: [0.0; 128],
             measured: 0,
             apart: false,
@@ -247,8 +305,7 @@ impl FoundPairs {
     }
 
     /// Replaces the pairs of the batch by the first interacting pairs of a list of pairs of atoms of a frame: those of
-    /// the whole list, or 128. Returns the number of pairs tried. Each pair is written, and only counted if it
-    /// interacts, so that there is no branch to mispredict.
+    /// the whole list, or 128. Returns the number of pairs tried.
     pub fn fill(&mut self, ring: &RingBox, frame: &[Place3], near: &[AtomPair]) -> usize
         requires inside { All (λ p. (p.low < length frame.now) × (p.high < length frame.now)) near.now }
         ensures tried { result ≤ length near.now }
@@ -257,36 +314,17 @@ impl FoundPairs {
         ensures full { result < length near.now → length self.new.pairs ≡ 128 }
         ensures few { length self.new.pairs ≤ 128 }
     {
-        let ring = *ring;
         let reach = self.reach;
         let float_reach = self.near;
-        self.ring = ring;
+        self.ring = *ring;
         self.measured = 0;
-        let FoundPairs {
-            pairs,
-            x,
-            y,
-            z,
-            squares,
-            count,
-            ..
-        } = self;
+        let FoundPairs { lanes, count, .. } = self;
         let mut l = 0;
         let mut k = 0;
         while k < near.len() && l < 128 {
-            let AtomPair { low, high } = near[k];
-            let p = frame[low as usize];
-            let q = frame[high as usize];
-            let grid = grid_separation(p, q);
-            let floats = ring.float_scaled(grid);
-            let square = floats.square();
-            pairs[l] = GridPair { low, high, grid };
-            x[l] = floats.x;
-            y[l] = floats.y;
-            z[l] = floats.z;
-            squares[l] = square;
-            l += usize::from(reach.reaches(float_reach, square, &ring, &pairs[l].grid));
-            k += 1;
+            let end = near.len().min(k + (128 - l));
+            l = lanes.append(l, ring, &reach, float_reach, frame, &near[k..end]);
+            k = end;
         }
         *count = l;
         k
@@ -297,10 +335,10 @@ impl FoundPairs {
         ensures { self.new ≡ record { reach = self.old.reach; pairs = self.old.pairs; measured = length self.old.pairs } }
     {
         let count = self.count;
-        near_lengths(&self.squares, count, &mut self.lengths);
+        near_lengths(&self.lanes.squares, count, &mut self.lengths);
         self.apart = self.reach.find_distances(
             &self.ring,
-            &self.pairs,
+            &self.lanes.pairs,
             &self.lengths,
             count,
             &mut self.distances,
@@ -315,8 +353,8 @@ impl FoundPairs {
         ensures value { slice_get (map (λ f. (f.low, f.high)) self.now.pairs) l ≡ Some result }
         ensures lane { l < 128 }
     {
-        let FoundPairs { pairs, .. } = self;
-        let pair = pairs[l];
+        let FoundPairs { lanes, .. } = self;
+        let pair = lanes.pairs[l];
         (pair.low, pair.high)
     }
 
@@ -345,9 +383,9 @@ impl FoundPairs {
         forces(
             four_raw(slopes, l),
             four(&self.lengths, l),
-            four(&self.x, l),
-            four(&self.y, l),
-            four(&self.z, l),
+            four(&self.lanes.x, l),
+            four(&self.lanes.y, l),
+            four(&self.lanes.z, l),
             slack,
         )
     }
@@ -363,7 +401,7 @@ impl FoundPairs {
         for k in l..self.count.min(l + 4) {
             forces.put(
                 k,
-                self.pairs[k].exact_force(&self.ring, slopes[k], self.lengths[k]),
+                self.lanes.pairs[k].exact_force(&self.ring, slopes[k], self.lengths[k]),
             );
         }
     }

@@ -28,5 +28,5 @@ loop-i-preserved c =
 pub returns : goal.returns
 returns c l f there =
     let i = c.self.inside in
-    let size = seen_length i.reach i.count (map (scaled i.ring) i.pairs) i.measured c.args.self.now c.self.invariant.1.held c.self.view_is in
+    let size = seen_length i.reach i.count (map (scaled i.ring) i.lanes.pairs) i.measured c.args.self.now c.self.invariant.1.held c.self.view_is in
     c.loop-i.invariant.done l (omega (arith, size, c.loop-i-test.false, slice_get_within c.args.self.now.pairs l f there)) f there

@@ -6,7 +6,7 @@ use Rattle.ring_box.proofs.found_pairs.FoundPairs.measure.Goals as goal
 pub find_distances-self-inside-requires-clause-lengths : goal.find_distances-self-inside-requires-clause-lengths
 find_distances-self-inside-requires-clause-lengths c =
     let f = c.self.inside in
-    near_all f.reach f.count (map (scaled f.ring) f.pairs) f.x f.y f.z f.squares c.near_lengths.new.lengths c.self.invariant.0.fits c.self.invariant.1 c.near_lengths.ensures
+    near_all f.reach f.count (map (scaled f.ring) f.lanes.pairs) f.lanes.x f.lanes.y f.lanes.z f.lanes.squares c.near_lengths.new.lengths c.self.invariant.0.fits c.self.invariant.1 c.near_lengths.ensures
 
 pub invariant_of-self : goal.invariant_of-self
 invariant_of-self c =
@@ -17,7 +17,7 @@ invariant_of-self c =
       i.1,
       record {
         before = omega arith;
-        lengths' = near_all f.reach f.count (map (scaled f.ring) f.pairs) f.x f.y f.z f.squares c.near_lengths.new.lengths i.0.fits i.1 c.near_lengths.ensures;
+        lengths' = near_all f.reach f.count (map (scaled f.ring) f.lanes.pairs) f.lanes.x f.lanes.y f.lanes.z f.lanes.squares c.near_lengths.new.lengths i.0.fits i.1 c.near_lengths.ensures;
         taken = found.taken;
         apart' = found.apart;
       },
