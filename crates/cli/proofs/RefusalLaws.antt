@@ -11,13 +11,13 @@ use Rattle.fallible.specs.Out.{Appends, AppendsBeginning, Output}
 use Rattle.cli.specs.Actions.{Held, Paths}
 use Rattle.cli.specs.Command.{IsDone, version_line}
 use Rattle.cli.specs.Performed.{HasAnswered, WritesLine, WritesText}
-use Rattle.cli.specs.Refusals.{BeginsAnswer, IsNoAnswer, IsUnanswered}
+use Rattle.cli.specs.Refusals.{BeginsAnswer, IsUnanswered, WhyNotAnswered}
 use Rattle.cli.specs.declared.faults.CommandFault.{CommandFault}
 use Rattle.cli.specs.declared.faults.CommandFault.TheVariants as fault
 
 -- why they were not answered, by the parser's error
 pub unanswered : {A : Type 0} (words : List (List ℕ)) (e : Error) (before after : Output) (f : CommandFault A) → HasKind (faults_of words) e
-    → (kind_of e ≡ OutOfMemory) ⊎ ((c : CommandView) → IsCommand words c → ⊥) → IsNoAnswer (kind_of e) before after f → IsUnanswered words before after f
+    → (kind_of e ≡ OutOfMemory) ⊎ ((c : CommandView) → IsCommand words c → ⊥) → WhyNotAnswered (kind_of e) before after f → IsUnanswered words before after f
 unanswered words e before after f kind none (inl h) = inl (h.0, h.1, is_misuse words e h.2 h.3 h.4 kind none, h.5)
 unanswered words e before after f kind none (inr (inl (o, is, inl help))) =
     inr (inl (o, is, inl (asks_for_help words e help.0 kind, help.1)))
@@ -28,7 +28,7 @@ unanswered words e before after f kind none (inr (inr h)) = inr (inr h)
 -- why the text of the help or of the version was not printed
 pub no_answer : {T A : Type 0} (r : Result T (CommandFault A)) (kind : ErrorKind) (text : List ℕ) (before after : Output)
     → (AppendsBeginning before after text → BeginsAnswer kind before after)
-    → WritesLine text before after r → IfErr r (IsNoAnswer kind before after)
+    → WritesLine text before after r → IfErr r (WhyNotAnswered kind before after)
 no_answer (Ok x) kind text before after begun h = tt
 no_answer (Err f) kind text before after begun (inl h) = inr (inr h)
 no_answer (Err f) kind text before after begun (inr h) = inr (inl (h.0, h.1, begun h.2))

@@ -235,8 +235,8 @@ BeginsAnswer kind before after = ((kind ≡ DisplayHelp) × BeginsSome before af
 
 -- Why standard output has no help and no version after a parser error of this kind: the error isn't a request for help
 -- or the version and memory didn't run out; or the output failed; or memory ran out.
-abbrev pub IsNoAnswer : {A : Type 0} → ErrorKind → Output → Output → CommandFault A → Type 0
-IsNoAnswer kind before after f =
+abbrev pub WhyNotAnswered : {A : Type 0} → ErrorKind → Output → Output → CommandFault A → Type 0
+WhyNotAnswered kind before after f =
     ((e : Error) × (f ≡ fault.CommandLine e) × (kind ≢ OutOfMemory) × (kind ≢ DisplayHelp) × (kind ≢ DisplayVersion)
     × (after ≡ before))
     ⊎ ((o : OutFault) × (f ≡ fault.Out o) × BeginsAnswer kind before after)

@@ -12,7 +12,7 @@ ghost use Rattle.cli.specs.Command.{IsAnswer, IsDone, IsQuiet, Prints, PrintsIfC
 ghost use Rattle.cli.specs.CommandFailure.{IsFailure};
 ghost use Rattle.cli.specs.Performed.{EndsIn, HasAnswered, Performs};
 ghost use Rattle.cli.specs.Progress.{IsTold, Reports};
-ghost use Rattle.cli.specs.Refusals.{IsFaultOf, IsNoAnswer};
+ghost use Rattle.cli.specs.Refusals.{IsFaultOf, WhyNotAnswered};
 ghost use Rattle.cli.specs.Reports.{IsReason, IsReported, no_such_type, said};
 ghost use Rattle.cli.specs.Statuses.{status_of};
 ghost use Rattle.cli.specs.declared.faults.CommandFault.{CommandFault};
@@ -241,7 +241,7 @@ fn answer<'a, A: Allocator + Copy, O: Out>(
 ) -> Result<(), CommandFault<'a, A>>
     requires { (O.output out.old).failed < 2 ^ 64 - 1 }
     ensures answered { OnOk result (HasAnswered (kind_of error) (O.output out.old) (O.output out.new)) }
-    ensures unanswered { IfErr result (IsNoAnswer (kind_of error) (O.output out.old) (O.output out.new)) }
+    ensures not_answered { IfErr result (WhyNotAnswered (kind_of error) (O.output out.old) (O.output out.new)) }
 {
     match error.kind() {
         ErrorKind::OutOfMemory => Err(CommandFault::Memory),

@@ -8,8 +8,8 @@ pub returns-in-DisplayHelp-clause-answered : goal.returns-in-DisplayHelp-clause-
 returns-in-DisplayHelp-clause-answered g c =
     help_answered (λ s. string_bytes s) c.help_text.result c.write_line.result _ _ _ (rw c.kind.ensures at c.in-DisplayHelp.is) c.help_text.ensures c.write_line.ensures
 
-pub returns-in-DisplayHelp-clause-unanswered : goal.returns-in-DisplayHelp-clause-unanswered
-returns-in-DisplayHelp-clause-unanswered g c =
+pub returns-in-DisplayHelp-clause-not_answered : goal.returns-in-DisplayHelp-clause-not_answered
+returns-in-DisplayHelp-clause-not_answered g c =
     let text = some_text (λ s. string_bytes s) c.help_text.result c.help_text.ensures in
     no_answer c.write_line.result _ text.0 _ _ (λ begun. inl (rw c.kind.ensures at c.in-DisplayHelp.is, (text.0, text.1, begun))) (c.write_line.ensures text.0 text.2)
 
@@ -17,6 +17,6 @@ pub returns-in-DisplayVersion-clause-answered : goal.returns-in-DisplayVersion-c
 returns-in-DisplayVersion-clause-answered g c =
     version_answered c.write_line-in-DisplayVersion.result _ _ _ (rw c.kind.ensures at c.in-DisplayVersion.is) (c.write_line-in-DisplayVersion.ensures version_line c.version_text.ensures)
 
-pub returns-in-DisplayVersion-clause-unanswered : goal.returns-in-DisplayVersion-clause-unanswered
-returns-in-DisplayVersion-clause-unanswered g c =
+pub returns-in-DisplayVersion-clause-not_answered : goal.returns-in-DisplayVersion-clause-not_answered
+returns-in-DisplayVersion-clause-not_answered g c =
     no_answer c.write_line-in-DisplayVersion.result _ version_line _ _ (λ begun. inr (rw c.kind.ensures at c.in-DisplayVersion.is, begun)) (c.write_line-in-DisplayVersion.ensures version_line c.version_text.ensures)

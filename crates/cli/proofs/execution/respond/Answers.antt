@@ -8,7 +8,7 @@ use Rattle.cli.proofs.execution.respond.Goals as goal
 pub returns-in-Err-clause-undone : goal.returns-in-Err-clause-undone
 returns-in-Err-clause-undone g c =
     let words = map g.S.AsStr.text c.args.words.now in
-    IfErr-weaker c.answer.result _ _ (λ f h. inl (unanswered words c.in-Err.error _ _ f c.in-Err.ensures.kind c.in-Err.ensures.none h, refl, refl)) c.answer.ensures.unanswered
+    IfErr-weaker c.answer.result _ _ (λ f h. inl (unanswered words c.in-Err.error _ _ f c.in-Err.ensures.kind c.in-Err.ensures.none h, refl, refl)) c.answer.ensures.not_answered
 
 pub returns-in-Err-clause-done : goal.returns-in-Err-clause-done
 returns-in-Err-clause-done g c =
