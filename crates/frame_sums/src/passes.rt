@@ -29,13 +29,18 @@ use std::alloc::{AllocError, Allocator};
 use std::thread::Threads;
 
 impl<A: Allocator + Copy> SafeSystem<A> {
-    /// Makes the pairs of a frame available. `AllocError`: memory ran out.
-    fn prepare(&mut self, near: &mut NearPairs, frame: &[Place3]) -> Result<(), AllocError>
+    /// Makes the pairs of a frame available to this many workers. `AllocError`: memory ran out.
+    fn prepare(
+        &mut self,
+        near: &mut NearPairs,
+        frame: &[Place3],
+        workers: usize,
+    ) -> Result<(), AllocError>
         requires { length frame.now ≡ length self.old.system.masses.items }
         ensures prepared { OnOk result (IsPrepared self.new.lists frame.now) }
         ensures same { self.new.system ≡ self.old.system }
     {
-        self.lists.prepare(near, frame)
+        self.lists.prepare(near, frame, workers)
     }
 
     /// The sums of the forces on the atoms of a frame, computed on the caller's thread. `Memory`: memory ran out.
@@ -49,7 +54,7 @@ impl<A: Allocator + Copy> SafeSystem<A> {
         ensures forces { IfOk result (AreForces self.old.system frame.now) }
         ensures same { self.new.system ≡ self.old.system }
     {
-        self.prepare(&mut scratch.near, frame)?;
+        self.prepare(&mut scratch.near, frame, 1)?;
         let pairs = FramePairs {
             system: self,
             frame,
@@ -76,7 +81,7 @@ impl<A: Allocator + Copy> SafeSystem<A> {
         ensures small { IfOk result (λ energy. unsigned_abs energy < 2 ^ 95) }
         ensures same { self.new.system ≡ self.old.system }
     {
-        self.prepare(&mut scratch.near, frame)?;
+        self.prepare(&mut scratch.near, frame, 1)?;
         let pairs = FramePairs {
             system: self,
             frame,
@@ -106,7 +111,7 @@ impl<A: Allocator + Copy> SafeSystem<A> {
         ensures forces { IfOk result (λ p. AreForces self.old.system frame.now p.1) }
         ensures same { self.new.system ≡ self.old.system }
     {
-        self.prepare(&mut scratch.near, frame)?;
+        self.prepare(&mut scratch.near, frame, 1)?;
         let pairs = FramePairs {
             system: self,
             frame,
@@ -152,7 +157,8 @@ impl<A: Allocator + Copy + Sync> SafeSystem<A> {
         ensures forces { IfOk result (AreForces self.old.system frame.now) }
         ensures same { self.new.system ≡ self.old.system }
     {
-        self.prepare(&mut crew.first().near, frame)?;
+        let workers = crew.workers;
+        self.prepare(&mut crew.first().near, frame, workers)?;
         let pairs = FramePairs {
             system: self,
             frame,

@@ -6,7 +6,7 @@ use Rattle.ring_box.specs.declared.pairs.AtomPair.{AtomPair}
 use Rattle.pair_lists.specs.Lists.{part_of}
 
 -- bounds in a list of this length
-abbrev AreBoundsIn : ℕ → (ℕ × ℕ) → Type 0
+abbrev pub AreBoundsIn : ℕ → (ℕ × ℕ) → Type 0
 AreBoundsIn n b = (b.0 ≤ b.1) × (b.1 ≤ n)
 
 -- the part of a list between bounds

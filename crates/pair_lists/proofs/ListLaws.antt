@@ -1,9 +1,10 @@
 -- Lists of the pairs that act: which lists are, and that the tiles are.
-use Rattle.std.proofs.Common.{◌≡◌, ℕ, zero, suc, ◌<◌, ◌≤◌, Bool, true, false, cond, List, [], ◌∷◌, length, get_or, filter, sum_by, Some, None, arith, refl, ap, sym, ◌∙◌, map, is_some, option_map, nat_lt, ◌&&◌, if◌then◌else◌, slice_get, slice_index_or, All}
+use Rattle.std.proofs.Common.{◌≡◌, ℕ, zero, suc, ◌<◌, ◌≤◌, Bool, true, false, cond, List, [], ◌∷◌, length, get_or, filter, sum_by, Some, None, arith, refl, ap, sym, ◌∙◌, map, is_some, option_map, nat_lt, ◌&&◌, if◌then◌else◌, slice_get, slice_index_or, All, IsPermutation}
 use Rattle.std.proofs.lemmas.Bool.{and_parts, ltb-true, true≢false}
 use Rattle.std.proofs.lemmas.Bool.Decides.{nat_tests}
 use Rattle.std.proofs.lemmas.List.{get_or-map}
 use Rattle.std.proofs.lemmas.List.Elements.{All-from_get_or}
+use Rattle.std.proofs.lemmas.List.Sorted.{All-permutation, sum_by-IsPermutation}
 use Rattle.std.proofs.lemmas.List.Sums.{sum_by-cons}
 use Rattle.std.proofs.lemmas.Option.{get_or_from_slice_get, slice_get_within}
 use Rattle.cell_tiles.specs.Cells.{IsGrid}
@@ -44,6 +45,15 @@ same_lists n acts lists tiles e inside of =
       inside = inside;
       sums = λ f pairs are idle.
           sym (acting_sums acts f idle lists) ∙ (ap (sum_by f) e ∙ (acting_sums acts f idle tiles ∙ of.sums f pairs are idle));
+    }
+
+-- lists serve in any order
+pub in_any_order : (n : ℕ) (acts : ℕ × ℕ → Bool) (lists others : List (List (ℕ × ℕ))) → IsPermutation lists others
+    → AreListsOf n acts lists → AreListsOf n acts others
+in_any_order n acts lists others same of =
+    record {
+      inside = All-permutation (All (IsPairOf n)) lists others same of.inside;
+      sums = λ f pairs are idle. sum_by-IsPermutation (λ ps. sum_by f ps) lists others same ∙ of.sums f pairs are idle;
     }
 
 -- lists also serve for fewer pairs

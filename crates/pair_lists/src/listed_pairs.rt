@@ -1,6 +1,6 @@
 //! Lists of pairs of atoms in one block of memory.
 
-ghost use Rattle.std.specs.Prelude.{◌≡◌, ◌<◌, ◌^◌, [], ◌++◌, length, map, slice_index_or, OnErr, OnOk};
+ghost use Rattle.std.specs.Prelude.{◌≡◌, ◌<◌, ◌^◌, [], ◌++◌, length, map, slice_index_or, OnErr, OnOk, IsPermutation};
 ghost use Rattle.pair_lists.specs.Lists.{closed_from};
 
 use ring_box::AtomPair;
@@ -78,6 +78,16 @@ impl<A: Allocator> ListedPairs<A> {
         self.bounds.push((self.closed, end))?;
         self.closed = end;
         Ok(())
+    }
+
+    /// Changes the order of the lists: they are divided into this many parts, which take turns. So workers that draw one
+    /// list after the other are in distant parts of the box, and rarely add forces to the same atoms.
+    pub(crate) fn spread(&mut self, parts: usize)
+        ensures lists { IsPermutation self.old.lists self.new.lists }
+        ensures rest { self.new.rest ≡ self.old.rest }
+    {
+        let part = self.pairs.len() / parts.max(1) + 1;
+        self.bounds.sort_unstable_by_key(|bounds| bounds.0 % part);
     }
 
     /// The number of lists.

@@ -105,7 +105,12 @@ impl<A: Allocator + Copy> PairLists<A> {
     }
 
     // Lists the pairs of a frame with the margin, if there is one. `AllocError`: memory ran out.
-    fn list(&mut self, near: &mut NearPairs, frame: &[Place3]) -> Result<(), AllocError>
+    fn list(
+        &mut self,
+        near: &mut NearPairs,
+        frame: &[Place3],
+        workers: usize,
+    ) -> Result<(), AllocError>
         requires { length frame.now ≤ 65536 }
         ensures prepared { OnOk result (IsPrepared self.new frame.now) }
         ensures ring { self.new.ring ≡ self.old.ring }
@@ -117,7 +122,7 @@ impl<A: Allocator + Copy> PairLists<A> {
             return self.fill(frame);
         };
         set_reference(&mut self.reference, frame)?;
-        wide_cells.list(&self.ring, near, frame, &mut self.lists)?;
+        wide_cells.list(&self.ring, near, frame, workers, &mut self.lists)?;
         self.kept = true;
         self.served = 1;
         Ok(())
@@ -150,9 +155,15 @@ impl<A: Allocator + Copy> PairLists<A> {
         })
     }
 
-    /// Prepares a frame of at most 65,536 atoms: the other functions return its pairs. `near` is work space.
-    /// `AllocError`: memory ran out, and no frame is prepared.
-    pub fn prepare(&mut self, near: &mut NearPairs, frame: &[Place3]) -> Result<(), AllocError>
+    /// Prepares a frame of at most 65,536 atoms: the other functions return its pairs. `near` is work space. New lists
+    /// are in the order in which this many workers need the least time. `AllocError`: memory ran out, and no frame is
+    /// prepared.
+    pub fn prepare(
+        &mut self,
+        near: &mut NearPairs,
+        frame: &[Place3],
+        workers: usize,
+    ) -> Result<(), AllocError>
         requires { length frame.now ≤ 65536 }
         ensures prepared { OnOk result (IsPrepared self.new frame.now) }
         ensures ring { self.new.ring ≡ self.old.ring }
@@ -169,7 +180,7 @@ impl<A: Allocator + Copy> PairLists<A> {
             return Ok(());
         }
         if self.served >= least {
-            return self.list(near, frame);
+            return self.list(near, frame, workers);
         }
         self.fill(frame)?;
         if is_near {

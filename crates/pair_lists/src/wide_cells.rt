@@ -69,13 +69,14 @@ impl<A: Allocator + Copy> WideCells<A> {
         &self.margin
     }
 
-    /// Replaces the lists by those of the pairs of a frame of at most 65,536 atoms, up to the margin. `AllocError`: memory
-    /// ran out.
+    /// Replaces the lists by those of the pairs of a frame of at most 65,536 atoms, up to the margin, in the order for
+    /// this many workers. `AllocError`: memory ran out.
     pub(crate) fn list(
         &mut self,
         ring: &RingBox,
         near: &mut NearPairs,
         frame: &[Place3],
+        workers: usize,
         lists: &mut ListedPairs<A>,
     ) -> Result<(), AllocError>
         requires few { length frame.now ≤ 65536 }
@@ -91,6 +92,8 @@ impl<A: Allocator + Copy> WideCells<A> {
             coarse: CoarseReach::new(ring, reach),
             places: frame,
         };
-        list_all(&self.cells, &self.tiles, &frame, near, lists)
+        list_all(&self.cells, &self.tiles, &frame, near, lists)?;
+        lists.spread(workers);
+        Ok(())
     }
 }

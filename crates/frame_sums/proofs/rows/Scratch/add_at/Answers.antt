@@ -1,4 +1,4 @@
-use Rattle.std.proofs.Common.{ℕ, ◌≡◌, ◌∙◌, Some, ap, arith, sym}
+use Rattle.std.proofs.Common.{ℕ, ◌∙◌, Some, ap, arith, sym}
 use Rattle.ring_box.specs.PairForces.{force_in}
 use Rattle.frame_sums.proofs.RowLaws.{add_in_lane, adds_length, pair_at, same_atoms}
 use Rattle.frame_sums.specs.Rounds.{pair_add}

@@ -9,8 +9,8 @@ use Rattle.ring_box.specs.declared.vectors.Place3.{Place3}
 use Rattle.pair_lists.specs.Lists.{AreListsOf, tiles_in}
 use Rattle.pair_lists.specs.Margins.{AreKept}
 use Rattle.pair_lists.specs.declared.margins.Margin.{Margin}
-use Rattle.pair_lists.proofs.ListLaws.{same_lists}
-use Rattle.pair_lists.proofs.PreparedLemmas.{cells_listed, on_ok}
+use Rattle.pair_lists.proofs.ListLaws.{in_any_order, same_lists}
+use Rattle.pair_lists.proofs.PreparedLemmas.{cells_listed}
 use Rattle.pair_lists.proofs.wide_cells.WideCells.list.Goals as goal
 
 -- the pairs of a frame in the cells for a margin are lists of those that act up to it; `of` is a view of the margin m
@@ -39,14 +39,17 @@ returns-clause-kept g c =
     let frame = c.args.frame.now in
     let cells = c.fill.new.self in
     let lists = c.list_all.new.lists.lists in
+    let spread = c.spread.new.self.lists in
     let filled = c.in_ok-fill.ensures in
+    let listed = c.in_ok-list_all.ensures in
     let acts = pair_acts i.margin.reach b frame in
     let tiles : AreListsOf (length frame) acts (tiles_in cells) =
     wide_listed cells i.cells.bits i.margin c.args.self.now b frame c.self.view_is c.self.invariant.1
     c.requires.neighbours filled.bits filled.ok filled.on_ring
     in
-    on_ok c.list_all.result
-    (λ acting inside.
-    subst (λ m. AreKept b m frame lists) c.self.view_is
-    (record { places = filled.on_ring; listed = same_lists (length frame) acts lists (tiles_in cells) acting inside tiles }))
-    c.list_all.ensures.acting c.list_all.ensures.inside
+    subst (λ m. AreKept b m frame spread) c.self.view_is
+    (record {
+      places = filled.on_ring;
+      listed = in_any_order (length frame) acts lists spread c.spread.ensures.lists
+          (same_lists (length frame) acts lists (tiles_in cells) listed.acting listed.inside tiles);
+    })
