@@ -2,7 +2,6 @@
 // terms, so that its stack frames stay small.
 ghost use Rattle.std.specs.Prelude.{◌≡◌};
 ghost use Rattle.fallible.specs.Failures.{IsOrMemory};
-ghost use Rattle.energy_program.specs.Tree.{tree_of};
 ghost use Rattle.energy_program.specs.Tree as t;
 ghost use Rattle.expr.specs.Uses.{Grows, GrowsThree, GrowsTwo};
 
@@ -42,14 +41,22 @@ fn taken<A: Allocator>(part: &mut Part<A>) -> Part<A>
     mem::replace(part, Err(Failure::Memory))
 }
 
+/// Overwrites a part. The old part is dropped here, once for all callers.
+#[inline(never)]
+pub fn put<A: Allocator>(part: &mut Part<A>, made: Part<A>)
+    ensures { part.new ≡ made }
+{
+    *part = made;
+}
+
 /// Overwrites a part with its negative.
 #[inline(never)]
 pub fn negate<A: Allocator + Copy>(alloc: A, part: &mut Part<A>)
     ensures { Grows t.Negated part.old part.new }
 {
     match taken(part) {
-        Ok(inner) => *part = leaf(alloc, Expr::Negated(inner)),
-        Err(fault) => *part = Err(fault),
+        Ok(inner) => put(part, leaf(alloc, Expr::Negated(inner))),
+        Err(fault) => put(part, Err(fault)),
     }
 }
 
@@ -64,8 +71,8 @@ pub fn operate<A: Allocator + Copy>(
     ensures { GrowsTwo (t.Binary operator) left.old right left.new }
 {
     match pair(taken(left), right) {
-        Ok((first, second)) => *left = leaf(alloc, Expr::Binary(operator, first, second)),
-        Err(fault) => *left = Err(fault),
+        Ok((first, second)) => put(left, leaf(alloc, Expr::Binary(operator, first, second))),
+        Err(fault) => put(left, Err(fault)),
     }
 }
 
@@ -75,8 +82,8 @@ pub fn apply<A: Allocator + Copy>(alloc: A, function: Function, part: &mut Part<
     ensures { Grows (t.Applied function) part.old part.new }
 {
     match taken(part) {
-        Ok(inner) => *part = leaf(alloc, Expr::Applied(function, inner)),
-        Err(fault) => *part = Err(fault),
+        Ok(inner) => put(part, leaf(alloc, Expr::Applied(function, inner))),
+        Err(fault) => put(part, Err(fault)),
     }
 }
 
@@ -86,8 +93,8 @@ pub fn raise<A: Allocator + Copy>(alloc: A, base: &mut Part<A>, exponent: Expone
     ensures { Grows (λ x. t.Power x exponent.value) base.old base.new }
 {
     match taken(base) {
-        Ok(inner) => *base = leaf(alloc, Expr::Power(inner, exponent.value)),
-        Err(fault) => *base = Err(fault),
+        Ok(inner) => put(base, leaf(alloc, Expr::Power(inner, exponent.value))),
+        Err(fault) => put(base, Err(fault)),
     }
 }
 
@@ -101,5 +108,6 @@ pub fn choose<A: Allocator + Copy>(
 )
     ensures { GrowsThree t.Select condition.old chosen otherwise condition.new }
 {
-    *condition = choice(alloc, taken(condition), chosen, otherwise);
+    let made = choice(alloc, taken(condition), chosen, otherwise);
+    put(condition, made);
 }

@@ -11,7 +11,7 @@ ghost use Rattle.expr.specs.Syntax.{definition_of, source_of, syntax_of};
 ghost use Rattle.expr.specs.Uses.{IsInScope, all_resolved, resolved_in, trees, used_in};
 
 use crate::definitions::{Scope, number_from};
-use crate::parts::{Part, apply, choose, leaf, negate, operate, raise};
+use crate::parts::{Part, apply, choose, leaf, negate, operate, put, raise};
 use crate::sources::{Definition, Source};
 use crate::syntax::Syntax;
 use energy_program::{EnergyName, Expr, ExprFault, Names, Program};
@@ -42,10 +42,8 @@ fn used<A: Allocator + Copy>(alloc: A, scope: &Scope<A>, name: &[u8]) -> Part<A>
 fn resolve_number<A: Allocator + Copy>(alloc: A, constant: Constant, part: &mut Part<A>)
     ensures { IsOrMemory (λ e. tree_of e.value ≡ t.Number constant) part.new }
 {
-    *part = leaf(
-        alloc,
-        Expr::Number(constant.value, constant.low, constant.high),
-    );
+    let number = Expr::Number(constant.value, constant.low, constant.high);
+    put(part, leaf(alloc, number));
 }
 
 // Overwrites `part` with the input or definition that a name refers to, or with `UnknownName`.
@@ -54,7 +52,7 @@ fn resolve_name<A: Allocator + Copy>(alloc: A, scope: &Scope<A>, name: &[u8], pa
     ensures value { Gives (λ part. tree_of part.value) part.new (used_in scope.now name.now) }
     ensures scoped { IfOk part.new (λ e. IsInScope scope.now (tree_of e.value)) }
 {
-    *part = used(alloc, scope, name);
+    put(part, used(alloc, scope, name));
 }
 
 // Overwrites `part` with the tree in which every name is resolved in the scope, or with `UnknownName` for the leftmost
