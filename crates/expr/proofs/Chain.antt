@@ -1,16 +1,21 @@
 -- Chains of operands with signs between them, as the code's loops read them.
-use Rattle.std.proofs.Common.{◌≡◌, ℕ, zero, suc, ◌<◌, ◌≤◌, List, ◌∷◌, ◌++◌, length, length-append, Some, None, Ok, Err, refl, ap, subst, ◌∙◌, arith}
+use Rattle.std.proofs.Common.{◌≡◌, ℕ, zero, suc, ◌<◌, ◌≤◌, List, ◌∷◌, ◌++◌, length, length-append, Some, None, Result, Ok, Err, Box, refl, sym, ap, subst, ◌∙◌, arith}
+use Rattle.std.specs.Borrow.{Bor}
 use Rattle.fallible.specs.declared.failure.Failure.{Failure}
+use Rattle.fallible.specs.declared.failure.Failure.TheVariants.{Memory, Refused}
 use Rattle.fallible.proofs.FailureLaws.{fails_as}
 use Rattle.fixed.specs.declared.operations.Operator.{Operator}
 use Rattle.energy_program.specs.declared.faults.ExprFault.{ExprFault}
-use Rattle.energy_program.specs.Faults.{Refusal, Fails, refusal_of}
+use Rattle.energy_program.specs.Faults.{Refusal, Fails, Gives, refusal_of}
 use Rattle.energy_program.proofs.FaultLaws.{fails_then}
-use Rattle.expr.specs.Tokens.{Lexed}
+use Rattle.line_text.proofs.StepLaws.{same_ok}
+use Rattle.expr.specs.declared.syntax.Syntax as code
+use Rattle.expr.specs.declared.tokens.Token.{Token}
+use Rattle.expr.specs.Tokens.{Lexed, lexed}
 use Rattle.expr.specs.Tokens as t
-use Rattle.expr.specs.Syntax.{Syntax, Arguments, One}
+use Rattle.expr.specs.Syntax.{Syntax, Arguments, One, syntax_of}
 use Rattle.expr.specs.Syntax as tree
-use Rattle.expr.specs.Parsing.{ReadingOf, Reading, SignOf, sum_sign, product_sign, comma_sign, chain, chained, itself, listed, unary_at, term_at, expr_at}
+use Rattle.expr.specs.Parsing.{Operates, ReadingOf, Reading, seen, SignOf, sum_sign, product_sign, comma_sign, chain, chained, itself, listed, unary_at, term_at, expr_at}
 use Rattle.expr.specs.Grammar.{IsExpr, IsTerm, IsUnary, IsAtom, IsList}
 use Rattle.expr.specs.Grammar as g
 use Rattle.expr.proofs.Sound.{RuleOf, Stop, Spells, Means, SignMeans, AtExpr, AtTerm, AtUnary, AtList, sum_joins, product_joins, comma_joins, unary_means, term_means, expr_means}
@@ -152,3 +157,21 @@ lists end n = record {
   one_token = λ ts o rest e. let j = subst (SignMeans (IsList n) (IsExpr n) (AtList n) (AtExpr n) listed ts) e (comma_joins n ts) in ap length j.parts;
   takes = takes_by (IsExpr n) (AtExpr n) (expr_at end n) (λ a x p. expr_some p) (expr_means end n);
 }
+
+-- ---- the operation of a sign
+
+-- if the operation fails, so does its operand
+pub operation_fails : {C : Type 0} (o : Operator) (x : Syntax) (read : Result (Box (code.Syntax C) C × Bor (List Token)) (Failure (ExprFault C))) (e : Failure (ExprFault C)) (r : Reading)
+    → Operates o x read (Err e) → Gives seen read r → Fails e r
+operation_fails o x (Ok y) Memory r h g = tt
+operation_fails o x (Ok y) (Refused f) r h g = absurd cc
+operation_fails o x (Err f) e r h g = let same : e ≡ f = cc in rw same g
+
+-- if there is a value, it is the operation on the operand, which was read
+pub operation_reads : {C : Type 0} (o : Operator) (x : Syntax) (read : Result (Box (code.Syntax C) C × Bor (List Token)) (Failure (ExprFault C))) (made : Box (code.Syntax C) C × Bor (List Token)) (r : Reading)
+    → Operates o x read (Ok made) → Gives seen read r
+    → (y : Syntax) × (r ≡ Ok (y, lexed made.1.now)) × (syntax_of made.0.value ≡ tree.Binary o x y)
+operation_reads o x (Ok y) made r h g =
+    let same = same_ok (tree.Binary o x (syntax_of y.0.value), lexed y.1.now) (seen made) h in
+    (syntax_of y.0.value, g ∙ ap (λ rest. Ok (syntax_of y.0.value, rest)) (ap (λ p. p.1) same), sym (ap (λ p. p.0) same))
+operation_reads o x (Err f) made r h g = absurd cc

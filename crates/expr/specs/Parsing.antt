@@ -123,6 +123,12 @@ abbrev pub Closes : {A T : Type 0} → ℕ → Result (T × Bor (List Token)) (F
 Closes end (Ok x) result = Gives (λ y. (y.0, lexed y.1.now)) result (beside x.0 (close end (lexed x.1.now)))
 Closes end (Err e) result = result ≡ Err e
 
+-- the operation on a tree and the operand that is read after its sign; an earlier error stays
+abbrev pub Operates : {A : Type 0} → Operator → Syntax → Result (Box (code.Syntax A) A × Bor (List Token)) (Failure (ExprFault A))
+    → Result (Box (code.Syntax A) A × Bor (List Token)) (Failure (ExprFault A)) → Type 0
+Operates o x (Ok y) result = Gives seen result (Ok (s.Binary o x (syntax_of y.0.value), lexed y.1.now))
+Operates o x (Err e) result = result ≡ Err e
+
 -- the error if no level is left
 abbrev pub misplaced : ℕ → List Lexed → Refusal
 misplaced end [] = UnexpectedToken end

@@ -1,12 +1,12 @@
 // The parser: from tokens to a syntax tree, by recursive descent with a bounded depth. One function per rule of the
 // grammar (specs/Grammar.antt); `levels` bounds the nesting, so that the native stack can't overflow.
-ghost use Rattle.std.specs.Prelude.{◌≡◌, Ok};
+ghost use Rattle.std.specs.Prelude.{◌≡◌, Err, Ok};
 ghost use Rattle.fixed.specs.Constants.{constant};
 ghost use Rattle.expr.specs.Tokens.{Shows, lexeme, lexed};
-ghost use Rattle.energy_program.specs.Faults.{Answers, Gives, refusal_of};
+ghost use Rattle.energy_program.specs.Faults.{Answers, Gives, WrongArgumentCount, refusal_of};
 ghost use Rattle.expr.specs.Calls.{called};
 ghost use Rattle.expr.specs.Syntax.{arguments_of, syntax_of};
-ghost use Rattle.expr.specs.Parsing.{Closes, beside, followed, beginning, start_seen, sign_seen, arguments_seen, exponent_seen, seen, rest_seen, offset, begins_operand, misplaced, beginning_of, start, sum_sign, product_sign, minus_sign, open_sign, close_sign, comma_sign, close, expr_at, term_at, unary_at, power_at, raised_at, exponent_at, grouped_at, atom_at, call_at, arguments_at, list_at, closed_at};
+ghost use Rattle.expr.specs.Parsing.{Closes, Operates, beside, followed, beginning, start_seen, sign_seen, arguments_seen, exponent_seen, seen, rest_seen, offset, begins_operand, misplaced, beginning_of, start, sum_sign, product_sign, minus_sign, open_sign, close_sign, comma_sign, close, expr_at, term_at, unary_at, power_at, raised_at, exponent_at, grouped_at, atom_at, call_at, arguments_at, list_at, closed_at};
 
 use crate::calls::Arguments;
 use crate::exponents::{awaits_operand, caret_sign, signed_sign};
@@ -195,8 +195,9 @@ impl<A: Allocator + Copy> Parser<A> {
     {
         let (mut left, mut rest) = self.term(tokens, levels)?;
         while let Some((operator, after)) = sum_sign(rest) {
-            let (first, (second, beyond)) = beside(left, self.term(after, levels))?;
-            left = Box::new(self.alloc, Syntax::Binary(operator, first, second))?;
+            let read = self.term(after, levels);
+            let (whole, beyond) = self.operated(operator, left, read)?;
+            left = whole;
             rest = beyond;
         }
         Ok((left, rest))
@@ -208,8 +209,9 @@ impl<A: Allocator + Copy> Parser<A> {
     {
         let (mut left, mut rest) = self.unary(tokens, levels)?;
         while let Some((operator, after)) = product_sign(rest) {
-            let (first, (second, beyond)) = beside(left, self.unary(after, levels))?;
-            left = Box::new(self.alloc, Syntax::Binary(operator, first, second))?;
+            let read = self.unary(after, levels);
+            let (whole, beyond) = self.operated(operator, left, read)?;
+            left = whole;
             rest = beyond;
         }
         Ok((left, rest))
@@ -375,11 +377,16 @@ impl<A: Allocator + Copy> Parser<A> {
             (Callee::Three, Arguments::Three(condition, chosen, otherwise)) => {
                 self.put(Syntax::Select(condition, chosen, otherwise), tokens)
             }
-            _ => {
-                let name = EnergyName::copied(self.alloc, name)?;
-                Err(Failure::Refused(ExprFault::WrongArgumentCount { name }))
-            }
+            _ => self.miscounted(name),
         }
+    }
+
+    // The error of a call whose arguments don't match its function.
+    fn miscounted<'a>(&self, name: &'a [u8]) -> Read<'a, A>
+        ensures { Gives seen result (Err (WrongArgumentCount name.now)) }
+    {
+        let name = EnergyName::copied(self.alloc, name)?;
+        Err(Failure::Refused(ExprFault::WrongArgumentCount { name }))
     }
 
     // An expression in parentheses, after the opening one: the expression and the closing one.
@@ -409,6 +416,19 @@ impl<A: Allocator + Copy> Parser<A> {
                 at: self.offset(tokens),
             }),
         }
+    }
+
+    // A binary operation on the tree before a sign and the operand parsed after it.
+    fn operated<'a>(
+        &self,
+        operator: Operator,
+        left: Boxed<'a, A>,
+        right: Read<'a, A>,
+    ) -> Read<'a, A>
+        ensures { Operates operator (syntax_of left.entry.value) right.entry result }
+    {
+        let (right, rest) = right?;
+        self.put(Syntax::Binary(operator, left, right), rest)
     }
 
     // Boxes a tree, and returns it with the tokens after it.

@@ -6,7 +6,7 @@ use Rattle.expr.specs.Tokens.{lexed}
 use Rattle.expr.specs.Syntax.{arguments_of, syntax_of}
 use Rattle.expr.specs.Syntax as tree
 use Rattle.expr.specs.Parsing.{arguments_at, arguments_by, beginning, closed_at, list_at, listing, expr_at, term_at}
-use Rattle.expr.proofs.Chain.{starts, start_fails, less, next, next_fails, ends, sums, products, lists}
+use Rattle.expr.proofs.Chain.{operation_fails, operation_reads, starts, start_fails, less, next, next_fails, ends, sums, products, lists}
 use Rattle.expr.proofs.Levels.{closing_gives, unary_none_left, atom_group, atom_name, atom_call, minus_fails, minus_reads, gives_same, atom_start, unary_none, started, reading}
 use Rattle.expr.proofs.Results.{beside_ok, beside_err}
 use Rattle.expr.proofs.parser.Parser.+parser.Goals as goal
@@ -21,23 +21,22 @@ pub expr-loop-operator-init : goal.expr-loop-operator-init
 unfolding expr_at
 expr-loop-operator-init g t c = starts (sums c.args.self.now.end c.args.levels) (lexed c.args.tokens.now) _ _ c.in_ok-left.ensures
 
-pub expr-returns-in_err-first : goal.expr-returns-in_err-first
-expr-returns-in_err-first g t c =
-    let p = err_from_is_err_and c.from_residual-in_err-first.result c.from_residual-in_err-first.ensures.1 in
-    let read = beside_err _ _ _ c.in_err-first.ensures in
-    rw (p.1, p.2) (next_fails (sums c.args.self.now.end c.args.levels) _ _ (lexed c.loop-operator.rest.now) _ _ c.in-Some.ensures _ c.loop-operator.invariant (rw read at c.term-in-Some.ensures))
+pub expr-returns-in_err-whole : goal.expr-returns-in_err-whole
+expr-returns-in_err-whole g t c =
+    let p = err_from_is_err_and c.from_residual-in_err-whole.result c.from_residual-in_err-whole.ensures.1 in
+    rw (p.1, p.2) (next_fails (sums c.args.self.now.end c.args.levels) _ _ (lexed c.loop-operator.rest.now) _ _ c.in-Some.ensures _ c.loop-operator.invariant
+    (operation_fails _ _ c.term-read.result _ _ c.in_err-whole.ensures c.term-read.ensures))
 
 pub expr-loop-operator-smaller : goal.expr-loop-operator-smaller
 expr-loop-operator-smaller g t c =
-    let read = beside_ok _ _ _ _ c.in_ok-first.ensures in
-    let h = less (sums c.args.self.now.end c.args.levels) (lexed c.loop-operator.rest.now) _ _ _ _ c.in-Some.ensures (rw read.1 at c.term-in-Some.ensures) in
+    let read = operation_reads _ _ c.term-read.result _ _ c.in_ok-whole.ensures c.term-read.ensures in
+    let h = less (sums c.args.self.now.end c.args.levels) (lexed c.loop-operator.rest.now) _ _ _ _ c.in-Some.ensures read.1 in
     omega (arith, simp length-map at h)
 
 pub expr-loop-operator-preserved : goal.expr-loop-operator-preserved
 expr-loop-operator-preserved g t c =
-    let read = beside_ok _ _ _ _ c.in_ok-first.ensures in
-    let on = next (sums c.args.self.now.end c.args.levels) _ _ (lexed c.loop-operator.rest.now) _ _ c.in-Some.ensures _ _ c.loop-operator.invariant (rw read.1 at c.term-in-Some.ensures) in
-    rw (c.in_ok-left-2.ensures.ok, read.0) on
+    let read = operation_reads _ _ c.term-read.result _ _ c.in_ok-whole.ensures c.term-read.ensures in
+    rw read.2 (next (sums c.args.self.now.end c.args.levels) _ _ (lexed c.loop-operator.rest.now) _ _ c.in-Some.ensures _ _ c.loop-operator.invariant read.1)
 
 pub expr-returns : goal.expr-returns
 expr-returns g t c = ends (sums c.args.self.now.end c.args.levels) _ _ (lexed c.loop-operator.rest.now) c.loop-operator.invariant c.in_default.ensures
@@ -52,23 +51,22 @@ pub term-loop-operator-init : goal.term-loop-operator-init
 unfolding term_at
 term-loop-operator-init g t c = starts (products c.args.self.now.end c.args.levels) (lexed c.args.tokens.now) _ _ c.in_ok-left.ensures
 
-pub term-returns-in_err-first : goal.term-returns-in_err-first
-term-returns-in_err-first g t c =
-    let p = err_from_is_err_and c.from_residual-in_err-first.result c.from_residual-in_err-first.ensures.1 in
-    let read = beside_err _ _ _ c.in_err-first.ensures in
-    rw (p.1, p.2) (next_fails (products c.args.self.now.end c.args.levels) _ _ (lexed c.loop-operator.rest.now) _ _ c.in-Some.ensures _ c.loop-operator.invariant (rw read at c.unary-in-Some.ensures))
+pub term-returns-in_err-whole : goal.term-returns-in_err-whole
+term-returns-in_err-whole g t c =
+    let p = err_from_is_err_and c.from_residual-in_err-whole.result c.from_residual-in_err-whole.ensures.1 in
+    rw (p.1, p.2) (next_fails (products c.args.self.now.end c.args.levels) _ _ (lexed c.loop-operator.rest.now) _ _ c.in-Some.ensures _ c.loop-operator.invariant
+    (operation_fails _ _ c.unary-read.result _ _ c.in_err-whole.ensures c.unary-read.ensures))
 
 pub term-loop-operator-smaller : goal.term-loop-operator-smaller
 term-loop-operator-smaller g t c =
-    let read = beside_ok _ _ _ _ c.in_ok-first.ensures in
-    let h = less (products c.args.self.now.end c.args.levels) (lexed c.loop-operator.rest.now) _ _ _ _ c.in-Some.ensures (rw read.1 at c.unary-in-Some.ensures) in
+    let read = operation_reads _ _ c.unary-read.result _ _ c.in_ok-whole.ensures c.unary-read.ensures in
+    let h = less (products c.args.self.now.end c.args.levels) (lexed c.loop-operator.rest.now) _ _ _ _ c.in-Some.ensures read.1 in
     omega (arith, simp length-map at h)
 
 pub term-loop-operator-preserved : goal.term-loop-operator-preserved
 term-loop-operator-preserved g t c =
-    let read = beside_ok _ _ _ _ c.in_ok-first.ensures in
-    let on = next (products c.args.self.now.end c.args.levels) _ _ (lexed c.loop-operator.rest.now) _ _ c.in-Some.ensures _ _ c.loop-operator.invariant (rw read.1 at c.unary-in-Some.ensures) in
-    rw (c.in_ok-left-2.ensures.ok, read.0) on
+    let read = operation_reads _ _ c.unary-read.result _ _ c.in_ok-whole.ensures c.unary-read.ensures in
+    rw read.2 (next (products c.args.self.now.end c.args.levels) _ _ (lexed c.loop-operator.rest.now) _ _ c.in-Some.ensures _ _ c.loop-operator.invariant read.1)
 
 pub term-returns : goal.term-returns
 term-returns g t c = ends (products c.args.self.now.end c.args.levels) _ _ (lexed c.loop-operator.rest.now) c.loop-operator.invariant c.in_default.ensures
