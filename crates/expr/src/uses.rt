@@ -111,9 +111,9 @@ fn resolve_operation<A: Allocator + Copy>(
     ensures scoped { IfOk part.old (λ e. IsInScope scope.now (tree_of e.value))
         → IfOk part.new (λ e. IsInScope scope.now (tree_of e.value)) }
 {
-    let mut second = Err(Failure::Memory);
-    resolve_into(alloc, scope, right, &mut second);
-    operate(alloc, operator, part, second);
+    let mut resolved_right = Err(Failure::Memory);
+    resolve_into(alloc, scope, right, &mut resolved_right);
+    operate(alloc, operator, part, resolved_right);
 }
 
 // Overwrites the resolved condition with the resolved choice.
@@ -133,11 +133,11 @@ fn resolve_choice<A: Allocator + Copy>(
     ensures scoped { IfOk part.old (λ e. IsInScope scope.now (tree_of e.value))
         → IfOk part.new (λ e. IsInScope scope.now (tree_of e.value)) }
 {
-    let mut second = Err(Failure::Memory);
-    resolve_into(alloc, scope, chosen, &mut second);
-    let mut third = Err(Failure::Memory);
-    resolve_into(alloc, scope, otherwise, &mut third);
-    choose(alloc, part, second, third);
+    let mut resolved_chosen = Err(Failure::Memory);
+    resolve_into(alloc, scope, chosen, &mut resolved_chosen);
+    let mut resolved_otherwise = Err(Failure::Memory);
+    resolve_into(alloc, scope, otherwise, &mut resolved_otherwise);
+    choose(alloc, part, resolved_chosen, resolved_otherwise);
 }
 
 /// The tree with every name resolved in the scope. Error: `UnknownName` for the leftmost name without a meaning.
