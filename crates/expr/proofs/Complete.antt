@@ -8,7 +8,7 @@ use Rattle.energy_program.specs.Faults.{Refusal, TooLarge}
 use Rattle.energy_program.specs.Names.{function_of}
 use Rattle.expr.specs.Tokens.{Lexeme, Lexed}
 use Rattle.expr.specs.Tokens as t
-use Rattle.expr.specs.Syntax.{Syntax, Arguments, Empty, One, with_argument}
+use Rattle.expr.specs.Syntax.{Syntax, Arguments, Empty, One}
 use Rattle.expr.specs.Syntax as tree
 use Rattle.expr.specs.Parsing.{ReadingOf, Reading, Numeral, begins_operand, awaits_operand, sum_sign, product_sign, minus_sign, open_sign, close_sign, caret_sign, close, closed, chained, signed_sign, grouped_at, exponent_at, raised_at, arguments_by, called_by, unary_at, term_at, expr_at, closed_at, atom_at, power_at, list_at, arguments_at, call_at}
 use Rattle.expr.specs.Grammar.{IsWhole, IsExponent, IsExpr, IsTerm, IsUnary, IsPower, IsAtom, IsArguments, IsList}

@@ -8,7 +8,7 @@ use Rattle.std.specs.Borrow.{Bor}
 use Rattle.fallible.specs.declared.failure.Failure.TheVariants.{Refused, Memory}
 use Rattle.expr.specs.declared.tokens.Token.{Token}
 use Rattle.expr.specs.Tokens.{Lexed, lexed}
-use Rattle.expr.specs.Syntax.{Syntax, Arguments, One}
+use Rattle.expr.specs.Syntax.{Syntax}
 use Rattle.expr.specs.Syntax as tree
 use Rattle.expr.specs.Parsing.{ReadingOf, Closes, beside, close, closed, power_at, call_at, Reading, Beginning, Word, Group, start, misplaced, minus_sign, open_sign, atom_by, unary_by, name_by, unary_at, term_at, expr_at, closed_at, atom_at}
 use Rattle.energy_program.proofs.FaultLaws.{fails_same, fails_then}

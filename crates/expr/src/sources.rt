@@ -2,8 +2,8 @@
 ghost use Rattle.std.specs.Prelude.{◌≡◌};
 ghost use Rattle.energy_program.specs.Faults.{Answers, Gives};
 ghost use Rattle.expr.specs.Parsing.{rest_seen};
-ghost use Rattle.expr.specs.Sources.{after_semicolons, definitions_at, equals, heading_at, heading_seen, name_in, name_seen, name_sign, named_at, no_heading, semicolon_sign, source_at};
-ghost use Rattle.expr.specs.Syntax.{definition_views, source_of};
+ghost use Rattle.expr.specs.Sources.{after_semicolons, equals, heading_at, heading_seen, name_in, name_seen, name_sign, named_at, no_heading, semicolon_sign, source_at};
+ghost use Rattle.expr.specs.Syntax.{source_of};
 ghost use Rattle.expr.specs.Tokens.{Shows, lexeme, lexed};
 
 use crate::parser::{LEVELS, Parser};
