@@ -1,22 +1,14 @@
 -- If a rule of choices gives an approximation, the computed value is in its range.
-use Rattle.std.proofs.Common.{◌≡◌, ℤ, true, false, Some, ap, subst, ⊎_elim, arith, ◌&&◌, ◌⊎◌}
-use Rattle.std.proofs.lemmas.Int.{ints, clamps}
+use Rattle.std.proofs.Common.{◌≡◌, ℤ, true, false, Some, ap, subst, ⊎_elim, ◌&&◌, ◌⊎◌}
 use Rattle.std.proofs.lemmas.Bool.{and_parts}
 use Rattle.fixed.specs.Arithmetic.{is_zero}
 use Rattle.error_bounds.specs.Approximations.{Approximation, exact_range}
-use Rattle.interval_domain.specs.Ranges.{IsIn, Range, has_zero, hull}
+use Rattle.interval_domain.specs.Ranges.{IsIn, has_zero, hull}
 use Rattle.interval_domain.proofs.QuotientLemmas.{member_not_zero}
+use Rattle.interval_domain.proofs.RangeLemmas.{in_first, in_second}
 use Rattle.error_bounds.specs.Rules.{apart, either, is_not_zero, is_only_zero}
 use Rattle.error_bounds.proofs.Bounded.{within_limits_of}
 use Rattle.error_bounds.proofs.Tests.{no_twice, not_zero, only_zero_in}
-
--- a member of the first range is in the hull of both
-in_first : (x y : Range) (c : ℤ) → IsIn c x → IsIn c (hull x y)
-in_first x y c m = record { at_least = omega (arith, ints, clamps, m.at_least); at_most = omega (arith, ints, clamps, m.at_most) }
-
--- and so is a member of the second
-in_second : (x y : Range) (c : ℤ) → IsIn c y → IsIn c (hull x y)
-in_second x y c m = record { at_least = omega (arith, ints, clamps, m.at_least); at_most = omega (arith, ints, clamps, m.at_most) }
 
 -- if the rule finds that an operand isn't 0, the test of each member for 0 is false
 pub not_zero_computes : (p : Approximation) (z : ℤ) → IsIn z p.computed → is_not_zero p ≡ true → is_zero z ≡ false

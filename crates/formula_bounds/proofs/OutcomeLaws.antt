@@ -4,6 +4,7 @@ use Rattle.std.proofs.lemmas.Int.{ints, clamps}
 use Rattle.std.proofs.lemmas.Option.{none-some, same_Some}
 use Rattle.derivative.specs.Exact.{Numbers}
 use Rattle.interval_domain.specs.Ranges.{IsIn, Range, hull}
+use Rattle.interval_domain.proofs.RangeLemmas.{in_first, in_second}
 use Rattle.error_bounds.specs.Approximations.{Agrees, Approximation, Outcomes, exact_range, outcomes_of, scale}
 use Rattle.error_bounds.specs.Meanings.{ApproximatesIfThere}
 use Rattle.error_bounds.specs.Ordered.{AreOrdered, IsBetween}
@@ -24,12 +25,6 @@ module _ {V : Type 0} (k : Numbers V) (h : AreOrdered k) (bits : ℕ) where
   -- the exact value, if it is there, is among the outcomes
   abbrev HasExact : Option V → Outcomes → Type 0
   HasExact exact s = (x : V) → exact ≡ Some x → IsBetween k (scale bits) s.exact.low s.exact.high x
-
-  in_first : (x y : Range) (c : ℤ) → IsIn c x → IsIn c (hull x y)
-  in_first x y c m = record { at_least = omega (arith, ints, clamps, m.at_least); at_most = omega (arith, ints, clamps, m.at_most) }
-
-  in_second : (x y : Range) (c : ℤ) → IsIn c y → IsIn c (hull x y)
-  in_second x y c m = record { at_least = omega (arith, ints, clamps, m.at_least); at_most = omega (arith, ints, clamps, m.at_most) }
 
   within_first : (x y : Range) (c : V) → IsBetween k (scale bits) x.low x.high c → IsBetween k (scale bits) (hull x y).low (hull x y).high c
   within_first x y c b = wider k h (scale bits) _ _ _ _ c (omega (arith, ints, clamps)) (omega (arith, ints, clamps)) b

@@ -142,6 +142,16 @@ zero_found x i = not_false (has_zero x) (λ e. zero_out x e i)
     not_false true n = refl
     not_false false n = absurd (n refl)
 
+-- ---- members of a hull
+
+-- a member of the first range is in the hull of both
+pub in_first : (x y : Range) (z : ℤ) → IsIn z x → IsIn z (hull x y)
+in_first x y z m = record { at_least = omega (arith, ints, clamps, m.at_least); at_most = omega (arith, ints, clamps, m.at_most) }
+
+-- and so is a member of the second
+pub in_second : (x y : Range) (z : ℤ) → IsIn z y → IsIn z (hull x y)
+in_second x y z m = record { at_least = omega (arith, ints, clamps, m.at_least); at_most = omega (arith, ints, clamps, m.at_most) }
+
 -- ---- magnitudes
 
 -- an integer between two small ones is small
