@@ -3,7 +3,7 @@
 ghost use Rattle.std.specs.Prelude.{◌≡◌, ◌^◌, ◌-◌, ◌≤◌, ◌≤ℤ◌, ◌<ℤ◌, ◌*ℤ◌, pos, false, unsigned_abs};
 ghost use Rattle.std.specs.Int.{int_max, int_min};
 ghost use Rattle.fixed.specs.Arithmetic.{floor_of};
-ghost use Rattle.interval_domain.specs.Ranges.{IsWithin, has_zero, quotients, range, scaled, times};
+ghost use Rattle.interval_domain.specs.Ranges.{IsWithin, has_zero, quotients, range, scaled, times, up_over};
 ghost use Rattle.interval_domain.specs.Views.{range_of};
 
 use fixed::floor_div;
@@ -92,6 +92,15 @@ fn least_quotient(n: i128, d: Ends) -> i128
     }
 }
 
+// The greatest quotient of an integer and a range of numbers above 0, rounded up.
+fn greatest_quotient(n: i128, d: Ends) -> i128
+    requires positive { pos 0 <ℤ d.low }
+    requires fits { unsigned_abs n ≤ 2 ^ 127 - 1 }
+    ensures { result ≡ int_max (up_over n d.low) (up_over n d.high) }
+{
+    negative(least_quotient(negative(n), d))
+}
+
 // All `x / y`, for numbers `y` above 0.
 fn quotients_above(x: Ends, y: Ends) -> Ends
     requires positive { pos 0 <ℤ y.low }
@@ -100,7 +109,7 @@ fn quotients_above(x: Ends, y: Ends) -> Ends
 {
     Ends {
         low: least_quotient(x.low, y),
-        high: negative(least_quotient(negative(x.high), y)),
+        high: greatest_quotient(x.high, y),
     }
 }
 
