@@ -5,7 +5,7 @@ use Rattle.fixed.specs.declared.faults.Fault.{Fault}
 use Rattle.fixed.specs.Arithmetic.{is_zero}
 use Rattle.energy_program.specs.Value as v
 use Rattle.derivative.specs.Exact as exact
-use Rattle.derivative.specs.Exact.{Numbers, minus, on_one, on_two, whole}
+use Rattle.derivative.specs.Exact.{Numbers, on_one, on_two}
 use Rattle.error_bounds.specs.Approximations.{Agrees, Approximation}
 use Rattle.error_bounds.specs.Approximate as a
 use Rattle.error_bounds.specs.Meanings.{ApproximatesIfThere}

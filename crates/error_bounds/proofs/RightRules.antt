@@ -12,7 +12,7 @@ use Rattle.fixed.specs.declared.operations.UnaryOperator.TheVariants as unary
 use Rattle.fixed.specs.declared.operations.Function.TheVariants as f
 use Rattle.fixed.specs.Operations.{operator_value, unary_value}
 use Rattle.fixed.specs.Arithmetic as fixed
-use Rattle.fixed.specs.Arithmetic.{floor_over, one, product_of, quotient_of, square_of, square_root_of}
+use Rattle.fixed.specs.Arithmetic.{floor_over, one, product_of, square_of, square_root_of}
 use Rattle.fixed.specs.Roots.{root}
 use Rattle.fixed.proofs.FloorLemmas.{narrowed}
 use Rattle.interval_domain.specs.Ranges.{IsIn, Range, operator_range, turn_of, unary_range}
