@@ -15,6 +15,17 @@ use Rattle.formula_bounds.specs.Entries as e
 use Rattle.formula_bounds.specs.Entries.{Entry, known_from, missing}
 use Rattle.formula_bounds.specs.Walks as w
 
+-- the node of a tree's root
+abbrev pub node_of : Tree → Node
+node_of (Number c) = node.Number c
+node_of (Input i) = node.Input i
+node_of (Definition j) = node.Definition j
+node_of (Negated a) = node.Negated
+node_of (Binary o a b) = node.Binary o
+node_of (Applied g a) = node.Applied g
+node_of (Power a n) = node.Power n
+node_of (Select x a b) = node.Select
+
 -- the nodes of a tree
 abbrev pub nodes_of : Tree → List Node
 nodes_of (Number c) = node.Number c ∷ []

@@ -3,7 +3,7 @@
 ghost use Rattle.std.specs.Prelude.{◌≡◌, ◌++◌, IfOk, map};
 ghost use Rattle.energy_program.specs.Tree.{tree_of};
 ghost use Rattle.std.specs.List.{list_any};
-ghost use Rattle.formula_bounds.specs.Nodes.{is_choice, is_choice_of_one, is_choice_of_two, nodes_of};
+ghost use Rattle.formula_bounds.specs.Nodes.{is_choice, is_choice_of_one, is_choice_of_two, node_of, nodes_of};
 
 use energy_program::Expr;
 use fixed::{Constant, Function, Operator};
@@ -30,6 +30,26 @@ pub(crate) enum Node {
     Select,
 }
 
+// The node of a tree's root.
+fn node_of<A: Allocator>(tree: &Expr<A>) -> Node
+    ensures { result ≡ node_of (tree_of tree.now) }
+{
+    match tree {
+        Expr::Number(value, low, high) => Node::Number(Constant {
+            value: *value,
+            low: *low,
+            high: *high,
+        }),
+        Expr::Input(number) => Node::Input(*number),
+        Expr::Definition(number) => Node::Definition(*number),
+        Expr::Negated(_) => Node::Negated,
+        Expr::Binary(operator, _, _) => Node::Binary(*operator),
+        Expr::Applied(function, _) => Node::Applied(*function),
+        Expr::Power(_, exponent) => Node::Power(*exponent),
+        Expr::Select(_, _, _) => Node::Select,
+    }
+}
+
 /// Appends the nodes of a tree: each node before its parts, and the last part first. The last call visits the part in
 /// which long sums and products nest, so they need no stack frame there.
 pub(crate) fn append_nodes<A: Allocator + Copy>(
@@ -38,39 +58,22 @@ pub(crate) fn append_nodes<A: Allocator + Copy>(
 ) -> Result<(), AllocError>
     ensures { IfOk result (λ _. nodes.new.items ≡ nodes.old.items ++ nodes_of (tree_of tree.now)) }
 {
+    nodes.push(node_of(tree))?;
     match tree {
-        Expr::Number(value, low, high) => nodes.push(Node::Number(Constant {
-            value: *value,
-            low: *low,
-            high: *high,
-        }))?,
-        Expr::Input(number) => nodes.push(Node::Input(*number))?,
-        Expr::Definition(number) => nodes.push(Node::Definition(*number))?,
-        Expr::Negated(part) => {
-            nodes.push(Node::Negated)?;
-            append_nodes(nodes, part)?;
+        Expr::Number(_, _, _) | Expr::Input(_) | Expr::Definition(_) => Ok(()),
+        Expr::Negated(part) | Expr::Applied(_, part) | Expr::Power(part, _) => {
+            append_nodes(nodes, part)
         }
-        Expr::Binary(operator, left, right) => {
-            nodes.push(Node::Binary(*operator))?;
+        Expr::Binary(_, left, right) => {
             append_nodes(nodes, right)?;
-            append_nodes(nodes, left)?;
-        }
-        Expr::Applied(function, part) => {
-            nodes.push(Node::Applied(*function))?;
-            append_nodes(nodes, part)?;
-        }
-        Expr::Power(part, exponent) => {
-            nodes.push(Node::Power(*exponent))?;
-            append_nodes(nodes, part)?;
+            append_nodes(nodes, left)
         }
         Expr::Select(condition, chosen, otherwise) => {
-            nodes.push(Node::Select)?;
             append_nodes(nodes, otherwise)?;
             append_nodes(nodes, chosen)?;
-            append_nodes(nodes, condition)?;
+            append_nodes(nodes, condition)
         }
     }
-    Ok(())
 }
 
 // Whether an operator is a choice: a minimum or a maximum.
