@@ -9,7 +9,8 @@ use fixed::{Frac, Fx, round_div};
 use line_text::{Line, put, put_decimals, put_integer};
 use std::alloc::{AllocError, Allocator};
 
-// The number of decimals of a value.
+// The number of decimals of a value. The last decimal is smaller than a unit of the value, so different values differ
+// in their texts; values with 24 bits have as many decimals as those with 32.
 fn places_of(frac: Frac) -> usize
     ensures value { result ≡ places (bits_of frac) }
     ensures some { 12 ≤ result }

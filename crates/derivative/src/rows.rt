@@ -129,6 +129,7 @@ fn quotient_row<A: Allocator + Copy>(
     binary(alloc, Operator::Divide, dividend, square)
 }
 
+// The derivative of a binary operation on `u` and `v`, given their derivatives.
 fn operation_row<A: Allocator + Copy>(
     alloc: A,
     by: u32,
@@ -183,6 +184,7 @@ fn function_row<A: Allocator + Copy>(
     }
 }
 
+// The derivative of the power `u^n` for the exponent n: `n*u^(n-1)*du`.
 fn power_row<A: Allocator + Copy>(
     alloc: A,
     frac: Frac,

@@ -13,7 +13,7 @@ use std::alloc::{AllocError, Allocator};
 /// A tree that was built, or a failed allocation.
 pub type Built<A> = Result<Expr<A>, AllocError>;
 
-/// The number 0: a tree that is overwritten.
+/// The number 0. It also takes the place of a tree that is written later.
 pub fn blank<A: Allocator>() -> Expr<A>
     ensures { tree_of result ≡ t.Number (exactly (pos 0)) }
 {

@@ -62,7 +62,7 @@ impl<A: Allocator + Copy> Model for Engine<A> {
 }
 
 impl<A: Allocator + Copy> Engine<A> {
-    /// The engine of a job and a state.
+    /// The engine with this job and this state, and the types that the job gives to the state's atoms.
     ///
     /// The errors come in this order: errors of the energy, of its derivative and of its code; `BitsDiffer` if the job
     /// and the state have different numbers of fraction bits; `UnknownType` for the lowest atom whose name is no

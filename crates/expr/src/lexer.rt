@@ -90,7 +90,7 @@ fn number_token<'a>(frac: Frac, text: &'a [u8]) -> Result<(Kind<'a>, &'a [u8]), 
     }
 }
 
-// The symbol that a byte is, and the bytes after it.
+// The symbol that a byte is, and the bytes after it. `Byte`: the byte is no symbol.
 fn symbol_token<'a>(byte: u8, after: &'a [u8]) -> Result<(Kind<'a>, &'a [u8]), Wrong>
     ensures { ShowsToken result (symbol_token after.now (symbol_of byte)) }
 {

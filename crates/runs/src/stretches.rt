@@ -61,7 +61,8 @@ pub fn until_hundredth(done: u64, all: u64) -> u64
 
 /// Makes the steps of a stretch of a run, and calls the watcher after each hundredth of the run's steps.
 ///
-/// `Err`: memory ran out after this many steps, including those before the stretch, and before the stretch's last.
+/// `Err`: memory ran out after this many steps, including those before the stretch, and before the stretch's last. The
+/// engine has made those of the stretch.
 pub(crate) fn advance<R: Threads + Sync, A: Allocator + Copy + Send + Sync, W: Watch, O: Out>(
     rt: &R,
     engine: &mut Engine<A>,

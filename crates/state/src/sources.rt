@@ -87,8 +87,8 @@ fn version_in(line: &[u8]) -> Option<Version>
     head(line)
 }
 
-/// Takes the lines between the first one and the end of the line with the number of atoms. Returns the number of lines
-/// that follow: 0 if the text ends here.
+/// Appends the lines after the first one to `text`, up to and with the line that has the number of atoms. Returns how
+/// many lines of the state follow: 0 if the text ends here.
 fn take_count<L: Lines, A: Allocator>(
     lines: &mut L,
     text: &mut Vec<u8, A>,
@@ -105,7 +105,8 @@ fn take_count<L: Lines, A: Allocator>(
     }
 }
 
-/// Takes the line with the number of atoms. Returns the number of lines that follow: 0 if the text ends here.
+/// Appends the line with the number of atoms to `text`. Returns how many lines of the state follow: 0 if the text ends
+/// here.
 fn take_count_line<L: Lines, A: Allocator>(
     lines: &mut L,
     text: &mut Vec<u8, A>,
