@@ -1,12 +1,13 @@
 -- Distances beside a range, and a bound above four times the greater of two others: it is above four times each.
-use Rattle.std.proofs.Common.{◌≡◌, ◌∙◌, ◌&&◌, ◌*◌, ◌+ℤ◌, ◌-ℤ◌, ◌≤ℤ◌, pos, ℕ, ℤ, Bool, true, false, List, Option, Some, None, max, nat_lt, refl, sym, ap, arith}
+use Rattle.std.proofs.Common.{◌≡◌, ◌∙◌, ◌&&◌, ◌*◌, ◌+ℤ◌, ◌-ℤ◌, ◌≤ℤ◌, pos, ℕ, ℤ, Bool, true, false, not, List, Option, Some, None, max, nat_lt, refl, sym, ap, arith}
 use Rattle.std.specs.Int.{int_max, int_min}
+use Rattle.std.proofs.lemmas.Bool.{and_parts, not-true}
 use Rattle.std.proofs.lemmas.Bool.Decides.{nat_tests}
 use Rattle.std.proofs.lemmas.Int.{clamps, ints}
 use Rattle.energy_program.specs.Programs.{Trees}
 use Rattle.fixed.specs.declared.constants.Constant.{Constant}
 use Rattle.interval_domain.specs.Ranges.{Range}
-use Rattle.curves.specs.Slices.{BoundsView, above, below, bounds_at, bounds_on, greater_bound, greater_bounds, in_column, is_local, is_local_on}
+use Rattle.curves.specs.Slices.{BoundsView, ColumnFlagsView, above, below, bounds_at, bounds_on, flag_of, greater_bound, greater_bounds, in_column, is_local, is_local_on, is_none}
 use Rattle.curves.specs.declared.slices.Column.{Column}
 use Rattle.curves.specs.declared.slices.Column.TheVariants.{Energy, Slope}
 
@@ -17,6 +18,11 @@ least_above high at more l = omega (arith, ints, clamps)
 -- a number below another, but at least the start, is no greater than the other
 pub greatest_below : (low at : ℤ) (less : ℕ) → low ≤ℤ at → int_max low (at -ℤ pos less) ≤ℤ at
 greatest_below low at less l = omega (arith, ints, clamps)
+
+-- if no column has a property, each lacks it
+pub none_there : (f : ColumnFlagsView) → is_none f ≡ true → (column : Column) → flag_of column f ≡ false
+none_there f e Energy = not-true f.energy (and_parts (not f.energy) (not f.slope) e).0
+none_there f e Slope = not-true f.slope (and_parts (not f.energy) (not f.slope) e).1
 
 never_both : (t : Bool) → (t && false) ≡ false
 never_both true = refl

@@ -1,7 +1,7 @@
 -- Parts of a range while the worst is looked for, and while a range is halved.
 use Rattle.std.proofs.Common.{◌≡◌, ℕ, zero, suc, ◌<◌, ◌≤◌, ◌+◌, ◌/◌, max, pos, ◌+ℤ◌, ◌-ℤ◌, ◌≤ℤ◌, ◌<ℤ◌, Bool, true, false, ◌||◌, List, [], ◌∷◌, ◌++◌, length, take, drop, get_or, slice_set, Option, Some, None, slice_get, refl, sym, subst, ap, ◌∙◌, ◌⊎◌, inl, inr, arith}
 use Rattle.std.proofs.Math.Pow.{shr_mono}
-use Rattle.std.proofs.lemmas.Bool.{both_ways}
+use Rattle.std.proofs.lemmas.Bool.{and_parts, both_ways}
 use Rattle.std.proofs.lemmas.Bool.Decides.{nat_tests}
 use Rattle.std.proofs.lemmas.Int.{by_lt_z, ints}
 use Rattle.std.proofs.lemmas.Option.{none-some, same_Some, slice_get_within}
@@ -12,7 +12,7 @@ use Rattle.interval_domain.specs.Ranges.{Range, range}
 use Rattle.interval_domain.specs.Spans.{AreHalves}
 use Rattle.interval_domain.specs.Views.{span_range}
 use Rattle.interval_domain.specs.declared.span.Span.{Span}
-use Rattle.curves.specs.Slices.{AreHalved, AreOfWorst, AreWorstOver, BoundsView, IsNext, IsToHalve, IsWorst, Part, at_ends, bounds_at, bounds_view, greater_bound, greater_bounds, halved_at, in_column, is_close, is_worse, middle, part_on, turn_of}
+use Rattle.curves.specs.Slices.{AreHalved, AreOfWorst, AreWorstOver, BoundsView, IsNext, IsToHalve, IsWorst, Part, are_close, at_ends, bounds_at, bounds_view, greater_bound, greater_bounds, halved_at, in_column, is_close, is_worse, middle, part_on, turn_of}
 use Rattle.curves.specs.declared.slices.Column.{Column}
 use Rattle.curves.specs.declared.slices.Column.TheVariants.{Energy, Slope}
 
@@ -301,7 +301,11 @@ or_second : (a b : Bool) → b ≡ true → (a || b) ≡ true
 or_second true b e = refl
 or_second false b e = e
 
-module _ (p : Part) (first last : BoundsView) (close : (column : Column) → is_close (in_column column p.bounds) (in_column column first) ≡ true) where
+in_close : (column : Column) (b tried : BoundsView) → are_close b tried ≡ true → is_close (in_column column b) (in_column column tried) ≡ true
+in_close Energy b tried e = (and_parts (is_close b.energy tried.energy) (is_close b.slope tried.slope) e).0
+in_close Slope b tried e = (and_parts (is_close b.energy tried.energy) (is_close b.slope tried.slope) e).1
+
+module _ (p : Part) (first last : BoundsView) (close : are_close p.bounds first ≡ true) where
   -- a column whose only part has a bound close to the one at the first distance is done
   done_alone : (column : Column) (parts : List Part) (bound : Option ℕ) (r : Range) → parts ≡ p ∷ [] → AreOfWorst column parts bound r
       → IsToHalve column parts (greater_bounds first last) None
@@ -309,7 +313,7 @@ module _ (p : Part) (first last : BoundsView) (close : (column : Column) → is_
       let only : w.1 ≡ p = alone w.0 w.1 (subst (λ (l : List Part). slice_get l w.0 ≡ Some w.1) e w.2.its) in
       let closer : is_close (in_column column p.bounds) (in_column column (greater_bounds first last)) ≡ true =
       rw (in_greater column first last)
-      (close_to_greater (in_column column p.bounds) (in_column column first) (in_column column last) (close column)) in (
+      (close_to_greater (in_column column p.bounds) (in_column column first) (in_column column last) (in_close column p.bounds first close)) in (
         w.0,
         w.1,
         w.2,
@@ -323,8 +327,7 @@ module _ (p : Part) (first last : BoundsView) (close : (column : Column) → is_
 -- bounds over a range whose bounds are close to those at its first distance
 pub done_at_first : (bits : ℕ) (program : Trees) (others : List Constant) (r : Range) (parts seen : List Part) (p : Part) (first : BoundsView)
     (e s : Option ℕ) (of_energy of_slope : Range) → parts ≡ p ∷ [] → p ≡ part_on bits program others r → first ≡ bounds_at bits program others r.low
-    → ((column : Column) → is_close (in_column column p.bounds) (in_column column first) ≡ true) → seen ≡ parts → AreOfWorst Energy seen e of_energy
-    → AreOfWorst Slope seen s of_slope → AreWorstOver bits program others r (bounds_view e s) of_energy of_slope
+    → are_close p.bounds first ≡ true → seen ≡ parts → AreOfWorst Energy seen e of_energy → AreOfWorst Slope seen s of_slope → AreWorstOver bits program others r (bounds_view e s) of_energy of_slope
 done_at_first bits program others r parts seen p first e s of_energy of_slope alone is tried close same ew sw =
     let last = bounds_at bits program others r.high in
     let are = started bits program others r parts p (greater_bounds first last) alone is (ap (λ b. greater_bounds b last) tried) in

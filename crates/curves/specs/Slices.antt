@@ -1,5 +1,5 @@
 -- Bounds on the errors of an energy and of its slope over a range of distances.
-use Rattle.std.specs.Prelude.{◌≡◌, ◌⊎◌, ◌<◌, ◌/◌, ◌%◌, ◌==◌, ℕ, suc, nat_le, nat_lt, int_le, max, min, ℤ, pos, ◌+ℤ◌, ◌-ℤ◌, ◌*ℤ◌, ◌*◌, unsigned_abs, Bool, true, false, ◌||◌, if◌then◌else◌, List, [], ◌∷◌, ◌++◌, take, drop, map, slice_get, Option, Some, None, IfSome}
+use Rattle.std.specs.Prelude.{◌≡◌, ◌⊎◌, ◌<◌, ◌/◌, ◌%◌, ◌==◌, ℕ, suc, nat_le, nat_lt, int_le, max, min, ℤ, pos, ◌+ℤ◌, ◌-ℤ◌, ◌*ℤ◌, ◌*◌, unsigned_abs, Bool, true, false, not, ◌&&◌, ◌||◌, if◌then◌else◌, List, [], ◌∷◌, ◌++◌, take, drop, map, slice_get, Option, Some, None, IfSome}
 use Rattle.std.specs.Int.{int_max, int_min}
 use Rattle.energy_program.specs.Programs.{Trees}
 use Rattle.energy_program.specs.Tree.{substituted}
@@ -136,6 +136,10 @@ is_close (Some bound) (Some tried) = nat_le (bound / 17) (tried / 16)
 is_close None (Some tried) = false
 is_close _ None = true
 
+-- whether the bounds of both columns are
+abbrev pub are_close : (bounds tried : BoundsView) → Bool
+are_close b tried = is_close b.energy tried.energy && is_close b.slope tried.slope
+
 -- whether a column with this worst part is done: the part is a single distance, or its bound is close
 abbrev pub is_done : Column → (worst : Part) → (tried : BoundsView) → Bool
 is_done column worst tried =
@@ -181,6 +185,10 @@ column_flags energy slope = record { energy = energy; slope = slope }
 abbrev pub flag_of : Column → ColumnFlagsView → Bool
 flag_of Energy f = f.energy
 flag_of Slope f = f.slope
+
+-- whether no column has it
+abbrev pub is_none : ColumnFlagsView → Bool
+is_none f = not f.energy && not f.slope
 
 -- whether a bound is above four times the greatest bound beside it
 abbrev pub is_local : (bound beside : Option ℕ) → Bool

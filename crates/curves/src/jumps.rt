@@ -1,5 +1,5 @@
 //! Whether a large bound is a jump: whether it is far above the bounds at distances nearby.
-ghost use Rattle.std.specs.Prelude.{◌≡◌, ◌&&◌, ◌||◌, ◌+ℤ◌, ◌-ℤ◌, ◌≤ℤ◌, false, pos, IfOk, IsTrue};
+ghost use Rattle.std.specs.Prelude.{◌≡◌, ◌&&◌, ◌||◌, ◌+ℤ◌, ◌-ℤ◌, ◌≤ℤ◌, pos, IfOk};
 ghost use Rattle.std.specs.Int.{int_max, int_min};
 ghost use Rattle.energy_program.specs.Programs.{Trees};
 ghost use Rattle.fixed.specs.Fractions.{bits_of};
@@ -79,7 +79,7 @@ fn are_local(bounds: &Bounds, beside: &Bounds) -> ColumnFlags
 
 // Whether no column has the property.
 fn is_none(flags: &ColumnFlags) -> bool
-    ensures { IsTrue result → (column : Column) → flag_of column flags.now ≡ false }
+    ensures { result ≡ slices.is_none flags.now }
 {
     !flags.energy && !flags.slope
 }

@@ -1,5 +1,5 @@
 //! Rows of a table: the potential at a distance as it is computed, and bounds on its errors up to the next row.
-ghost use Rattle.std.specs.Prelude.{◌≡◌, ◌&&◌, ◌≤◌, ◌<◌, ◌*◌, ◌/◌, IfOk, IsTrue, length, pos, unsigned_abs, ◌+ℤ◌, ◌-ℤ◌, ◌≤ℤ◌, ◌<ℤ◌};
+ghost use Rattle.std.specs.Prelude.{◌≡◌, ◌≢◌, ◌&&◌, false, ◌≤◌, ◌<◌, ◌*◌, ◌/◌, IfOk, IsTrue, length, pos, unsigned_abs, ◌+ℤ◌, ◌-ℤ◌, ◌≤ℤ◌, ◌<ℤ◌};
 ghost use Rattle.std.specs.Int.{int_max};
 ghost use Rattle.fixed.specs.Fractions.{bits_of};
 ghost use Rattle.job.specs.Views.{job_value};
@@ -93,7 +93,8 @@ fn all_distances<A: Allocator>(job: &Job<A>) -> Span
 
 // Whether two ranges are the same.
 fn is_same(x: Span, y: Span) -> bool
-    ensures { IsTrue result → span_range x ≡ span_range y }
+    ensures yes { IsTrue result → span_range x ≡ span_range y }
+    ensures no { result ≡ false → span_range x ≢ span_range y }
 {
     x.lo.raw() == y.lo.raw() && x.hi.raw() == y.hi.raw()
 }

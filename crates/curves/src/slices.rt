@@ -1,6 +1,6 @@
 //! Bounds over ranges of distances: a range is cut into parts, and the worst part is halved until the bounds are close to
 //! those at single distances.
-ghost use Rattle.std.specs.Prelude.{◌≡◌, ◌∷◌, ◌++◌, ◌<◌, ◌-ℤ◌, false, true, drop, length, map, slice_get, slice_set, take, IfOk, IsTrue, Some};
+ghost use Rattle.std.specs.Prelude.{◌≡◌, ◌∷◌, ◌++◌, ◌<◌, ◌-ℤ◌, false, drop, length, map, slice_get, slice_set, take, IfOk, Some};
 ghost use Rattle.fixed.specs.Arithmetic.{is_zero};
 ghost use Rattle.fixed.specs.Fractions.{bits_of};
 ghost use Rattle.energy_program.specs.Programs.{Trees};
@@ -278,7 +278,7 @@ fn is_close(bound: Option<u64>, tried: Option<u64>) -> bool
 
 // Whether both bounds of a part are close to the bounds at a tried distance.
 fn are_close(part: &Part, tried: &Bounds) -> bool
-    ensures { IsTrue result → (column : Column) → slices.is_close (in_column column part.now.bounds) (in_column column tried.now) ≡ true }
+    ensures { result ≡ slices.are_close part.now.bounds tried.now }
 {
     is_close(part.bounds.energy, tried.energy) && is_close(part.bounds.slope, tried.slope)
 }

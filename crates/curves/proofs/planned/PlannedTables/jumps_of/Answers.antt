@@ -19,5 +19,5 @@ pub returns-in_ok-jumps-clause-slope : goal.returns-in_ok-jumps-clause-slope
 returns-in_ok-jumps-clause-slope g c =
     let its = jumps_over (bits_of c.args.self.now.job.now.frac) (trees_of c.args.self.now.potential.now.slope.energy) c.args.pair.now.others.items
     (all_distances (job_value c.args.self.now.job.now)) Slope in
-    c.in_ok-jumps.ensures Slope ∙ ap its (c.is_same.ensures c.if-is_same.true)
+    c.in_ok-jumps.ensures Slope ∙ ap its (c.is_same.ensures.yes c.if-is_same.true)
     ∙ sym (ap (λ (b : Bool). b && its (span_range c.args.worst.now.slope.range)) (sym c.is_large-then-is_large.ensures ∙ c.if-is_large-2.true))

@@ -1,8 +1,7 @@
-use Rattle.std.proofs.Common.{◌≡◌, ◌∙◌, List, Some, None, true, ap, get_or, inl, inr, subst, arith}
+use Rattle.std.proofs.Common.{◌≡◌, ◌∙◌, List, Some, None, true, ap, get_or, inl, inr, sym, arith}
 use Rattle.fixed.specs.Fractions.{bits_of}
 use Rattle.interval_domain.specs.Views.{span_range}
-use Rattle.curves.specs.Slices.{BoundsView, Part, bounds_at, greater_bounds, in_column, is_close}
-use Rattle.curves.specs.declared.slices.Column.{Column}
+use Rattle.curves.specs.Slices.{BoundsView, Part, bounds_at, are_close, greater_bounds}
 use Rattle.curves.proofs.PartLaws.{done_at_first, next_seen, one_alone, one_halving, some_left, started, there_of_next, worst_over}
 use Rattle.curves.proofs.slices.PairFormula.bounds_over.Goals as goal
 
@@ -28,9 +27,8 @@ returns-then-are_close g c = λ program e.
     let first = c.in_ok-first.first in
     let alone = one_alone c.new-parts.result.items c.push.new.self.items whole c.new-parts.ensures.items c.in_ok-push.ensures.items in
     let read : c.index.result.now ≡ whole = c.index.ensures ∙ ap (λ (l : List Part). get_or l 0 c.index.result.now) alone in
-    let close : (column : Column) → is_close (in_column column whole.bounds) (in_column column first) ≡ true =
-    λ column. subst (λ (p : Part). is_close (in_column column p.bounds) (in_column column first) ≡ true) read
-    (c.are_close.ensures c.if-are_close.true column) in
+    let close : are_close whole.bounds first ≡ true =
+    ap (λ (p : Part). are_close p.bounds first) (sym read) ∙ sym c.are_close.ensures ∙ c.if-are_close.true in
     done_at_first (bits_of c.args.self.now.frac) program c.args.self.now.others.now (span_range c.args.range) c.push.new.self.items
     c.deref.result.now whole first worst.energy.bound worst.slope.bound (span_range worst.energy.range) (span_range worst.slope.range) alone
     (c.in_ok-part_on.ensures program e) (c.in_ok-first.ensures program e) close c.deref.ensures.value c.worst_parts.ensures.energy
