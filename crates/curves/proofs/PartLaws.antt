@@ -77,6 +77,10 @@ module _ (column : Column) (parts : List Part) where
   same : (p q : Part) (i : ℕ) → slice_get parts i ≡ Some p → slice_get parts i ≡ Some q → p ≡ q
   same p q i e f = cc
 
+  -- the part that is read at the number of the worst one is the worst one
+  pub is_read : (number : ℕ) (worst p : Part) → IsWorst column parts number worst → p ≡ get_or parts number p → worst ≡ p
+  is_read number worst p w e = same worst p number w.its (read_at parts number p e (slice_get_within parts number worst w.its))
+
   -- of one part it is the worst
   pub first_alone : (p : Part) → slice_get parts 0 ≡ Some p → IsWorstBefore column parts 1 0 p
   first_alone p e = record {
