@@ -1,14 +1,12 @@
 -- The parts that are reported before a failure.
-use Rattle.std.proofs.Common.{◌≡◌, ◌∙◌, ℕ, ◌+◌, ◌-◌, ◌*◌, ◌<◌, ◌≤◌, length, List, Option, None, Some, Result, Ok, Err, refl, sym, subst, ap, arith, inl, inr, IfErr, IsErrAnd, OnOk}
+use Rattle.std.proofs.Common.{◌≡◌, ◌∙◌, ℕ, ◌+◌, ◌-◌, ◌*◌, ◌<◌, ◌≤◌, length, Option, None, Some, Result, Ok, Err, refl, sym, subst, ap, arith, inl, inr, IfErr, IsErrAnd, OnOk}
 use Rattle.std.proofs.Math.Nat.{add-mul, mul-add}
 use Rattle.std.proofs.lemmas.Nat.{mul-le}
 use Rattle.fallible.specs.Failures.{IfRefused}
 use Rattle.fallible.specs.declared.failure.Failure.{Failure}
 use Rattle.fallible.specs.declared.failure.Failure.TheVariants.{Memory, Refused}
 use Rattle.fallible.specs.declared.output.OutFault.{OutFault}
-use Rattle.energy_program.specs.Faults.{Refusal}
 use Rattle.job.specs.Values.{JobValue}
-use Rattle.kernel_code.specs.declared.instructions.Instr.{Instr}
 use Rattle.potential.specs.Energies.{energy_code_of, slope_code_of}
 use Rattle.potential.specs.EnergyKernels.{HasNoEnergyKernel}
 use Rattle.potential.specs.Progress.{IsPassedBefore, slices_of}
@@ -167,14 +165,6 @@ pub memory_stopped : {X : Type 0} (r : Result X (Failure OutFault)) (most : ℕ)
 memory_stopped (Ok x) most Passed is h = tt
 memory_stopped (Err e) most Passed is (n, few, h) =
     subst (λ f. (n : ℕ) × StopsAt 0 most f n × Passed n) (sym is) (n, (omega arith, few), h)
-
--- memory ran out after all slices of a code
-pub slices_passed : {A X : Type 0} (r : Result X (Failure (EnergyFault A))) (j : JobValue) (made : Result (List Instr) Refusal)
-    (Passed : ℕ → Type 0) → IsErrAnd r (λ e. e ≡ Memory) → Passed (slices_of j)
-    → IfErr r (λ f. (n : ℕ) × IsPassedBefore j made f n × Passed n)
-slices_passed (Ok x) j made Passed is h = tt
-slices_passed (Err e) j made Passed is h =
-    subst (λ f. (n : ℕ) × IsPassedBefore j made f n × Passed n) (sym is) (slices_of j, omega arith, h)
 
 -- rows of a failure, after others
 pub stops_more : (least most next n : ℕ) (e : Failure OutFault) → least + most ≡ next → StopsAt 0 most e n → StopsAt least next e (least + n)

@@ -20,7 +20,7 @@ ghost use Rattle.curves.specs.Tables.{HasNoCurve};
 
 use derivative::derive;
 use energy_program::Program;
-use fallible::Failure;
+use fallible::{Failure, pair};
 use fixed::{Frac, Fx};
 use formula_bounds::Formula;
 use job::Job;
@@ -84,7 +84,8 @@ fn derived_formula<A: Allocator + Copy>(
 }
 
 impl<A: Allocator + Copy> Potential<A> {
-    // The potential with this slope. Reports each accepted slice of the energy's code.
+    // The potential with this slope. Reports each accepted slice of the energy's code. Calls drop what it owns: otherwise
+    // the prover follows the drop of each field on each path.
     fn with_slope<W: Progress>(
         alloc: A,
         job: &Job<A>,
@@ -102,15 +103,28 @@ impl<A: Allocator + Copy> Potential<A> {
             × IsPassedBefore (job_value job.now) (energy_code_of (job_value job.now)) failure n
             × W.passed watch.old watch.new n) }
     {
-        let energy = energy_kernel(alloc, job, &slope.energy, watch)?;
-        let formula = Formula::new(alloc, &slope.energy)?;
-        let derived = derived_formula(alloc, job.frac, &slope.energy)?;
-        Ok(Potential {
-            slope,
-            energy,
-            formula,
-            derived,
-        })
+        let energy = match energy_kernel(alloc, job, &slope.energy, watch) {
+            Ok(energy) => energy,
+            Err(failure) => {
+                drop(slope);
+                return Err(failure);
+            }
+        };
+        let formula = Formula::new(alloc, &slope.energy);
+        let derived = derived_formula(alloc, job.frac, &slope.energy);
+        match pair(formula, derived) {
+            Ok((formula, derived)) => Ok(Potential {
+                slope,
+                energy,
+                formula,
+                derived,
+            }),
+            Err(_) => {
+                drop(slope);
+                drop(energy);
+                Err(Failure::Memory)
+            }
+        }
     }
 
     /// The potential of a job. Reports each accepted slice of the slope's code, then of the energy's code.

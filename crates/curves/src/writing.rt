@@ -330,7 +330,10 @@ pub fn write_curve<A: Allocator + Copy, O: Out, W: Progress>(
                 potential: &potential,
                 plan,
             };
-            tables.put_curve(out, watch)
+            let wrote = tables.put_curve(out, watch);
+            // A call: otherwise the prover follows the drop of each field.
+            drop(potential);
+            wrote
         }
         Err(Failure::Refused(fault)) => Err(CurveFault::Rejected(fault)),
         Err(Failure::Memory) => Err(CurveFault::Memory),

@@ -6,17 +6,17 @@ use Rattle.curves.proofs.writing.write_curve.Goals as goal
 
 pub returns-in-Ok-clause-passed : goal.returns-in-Ok-clause-passed
 returns-in-Ok-clause-passed g c =
-    on_ok_weaker c.put_curve.result (λ passed. g.met.W.Progress.passed_more _ _ _ _ _ c.in-Ok.ensures.passed passed) c.put_curve.ensures.passed
+    on_ok_weaker c.put_curve-wrote.result (λ passed. g.met.W.Progress.passed_more _ _ _ _ _ c.in-Ok.ensures.passed passed) c.put_curve-wrote.ensures.passed
 
 pub returns-in-Ok-clause-stopped : goal.returns-in-Ok-clause-stopped
 returns-in-Ok-clause-stopped g c =
-    IfErr-weaker c.put_curve.result _ _
+    IfErr-weaker c.put_curve-wrote.result _ _
     (λ fault stopped. (
       2 * slices_of (job_value c.args.job.now) + stopped.0,
       stopped.1,
       g.met.W.Progress.passed_more _ _ _ _ _ c.in-Ok.ensures.passed stopped.2,
     ))
-    c.put_curve.ensures.stopped
+    c.put_curve-wrote.ensures.stopped
 
 pub returns-in-Err-Refused-clause-stopped : goal.returns-in-Err-Refused-clause-stopped
 returns-in-Err-Refused-clause-stopped g c =
