@@ -1,7 +1,5 @@
 -- Faults of commands from failed calls: if a call rejects its input, the command rejects the text.
-use Rattle.std.proofs.Common.{ℕ, List, Err, inl, inr}
-use Rattle.potential.specs.declared.faults.EnergyFault.{EnergyFault}
-use Rattle.engine.specs.Engines.{EngineView, HasNoEngineOfTexts, IsEngineOfTexts}
+use Rattle.std.proofs.Common.{◌≡◌, ℕ, List, Err, inl, inr, refl}
 use Rattle.engine.specs.declared.faults.InputFault.{InputFault}
 use Rattle.engine.specs.declared.faults.InputFault.TheVariants as input
 use Rattle.fallible.specs.Failures.{IfRefused}
@@ -13,11 +11,14 @@ use Rattle.job.specs.Values.{JobValue}
 use Rattle.job.specs.Views as jobs
 use Rattle.job.specs.declared.faults.JobFault.{JobFault}
 use Rattle.cli.specs.Failures.{command_fault}
-use Rattle.cli.specs.Quantities.{LacksQuantity}
 use Rattle.cli.specs.Refusals.{RefusesQuantity, RefusesUnder}
+use Rattle.cli.specs.StreamTexts.{shown_quantity}
 use Rattle.cli.specs.declared.faults.CommandFault.{CommandFault}
 use Rattle.cli.specs.declared.faults.CommandFault.TheVariants as fault
 use Rattle.command_line.specs.declared.commands.Quantity.{Quantity}
+use Rattle.command_line.specs.declared.commands.Quantity.TheVariants as quantity
+use Rattle.streams.specs.Texts.{LacksQuantityText}
+use Rattle.streams.specs.declared.quantities.Quantity.TheVariants.{Energy}
 
 -- ---- jobs
 
@@ -27,15 +28,21 @@ pub job_refused : {A : Type 0} (job : List ℕ) (Refuses' : JobValue → Command
 job_refused job Refuses' (Refused f) h = inl h
 job_refused job Refuses' Memory h = inl tt
 
--- If the texts have no engine, they have no quantity.
-pub engine_refused : {A : Type 0} (q : Quantity) (job state : List ℕ) (failure : Failure (InputFault A))
-    → IfRefused failure (HasNoEngineOfTexts job state) → RefusesQuantity q job state (command_fault fault.Rejected failure)
-engine_refused q job state (Refused f) h = inl h
-engine_refused q job state Memory h = tt
+-- ---- quantities
 
--- If an engine of the texts lacks a quantity, the texts are rejected.
-pub quantity_refused : {A : Type 0} (q : Quantity) (job state : List ℕ) (e : EngineView) (failure : Failure (EnergyFault A))
-    → IsEngineOfTexts job state e → IfRefused failure (LacksQuantity q e)
-    → RefusesQuantity q job state (command_fault (λ f. fault.Rejected (input.Energy f)) failure)
-quantity_refused q job state e (Refused f) opens h = inr (h.0, record { engine = e; opens = opens; why = h.1 })
-quantity_refused q job state e Memory opens h = tt
+-- only of the energy is an energy shown
+shows_energy : (q : Quantity) → shown_quantity q ≡ Energy → q ≡ quantity.Energy
+shows_energy quantity.Energy is = refl
+shows_energy quantity.Forces is = cc
+shows_energy quantity.Velocities is = cc
+
+-- If texts have no such quantity, they are rejected.
+pub quantity_refused : {A : Type 0} (q : Quantity) (job state : List ℕ) (failure : Failure (InputFault A))
+    → IfRefused failure (LacksQuantityText (shown_quantity q) job state) → RefusesQuantity q job state (command_fault fault.Rejected failure)
+quantity_refused q job state (Refused f) (inl h) = inl h
+quantity_refused q job state (Refused (input.Energy f)) (inr h) = inr (shows_energy q h.0, h.1)
+quantity_refused q job state (Refused (input.Job f)) (inr h) = absurd h
+quantity_refused q job state (Refused (input.State f)) (inr h) = absurd h
+quantity_refused q job state (Refused (input.System f)) (inr h) = absurd h
+quantity_refused q job state (Refused input.ForceRange) (inr h) = absurd h
+quantity_refused q job state Memory h = tt

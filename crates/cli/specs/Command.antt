@@ -19,14 +19,14 @@ use Rattle.engine.specs.RunSpecification.{IsLevesqueVerletRun, WroteLevesqueVerl
 use Rattle.runs.specs.Plans.{PlanView, visits_plan}
 use Rattle.runs.specs.Visits.{IsShownOfRun, Showing, WroteTexts}
 use Rattle.streams.specs.Streams.{WritesStates}
+use Rattle.streams.specs.Texts.{IsQuantityText}
 use Rattle.fallible.specs.Out.{Appends, AppendsBeginning, Output}
 use Rattle.line_text.specs.Parts.{lacks}
 use Rattle.cli.specs.Actions.{AsksFor, CodeText, EndOfRun, Explanation, FrameText, Held, ListingVerdict, OfKnownTask, OfTask, OneText, Paths, QuantityText, SlopeVerdict, StartText, StatesOfRun, StatesOfStream, TablesOfJob, Task, Text, Work, requested_by, progress_line, work_of}
 use Rattle.cli.specs.Conversions.{IsCodeText, IsFrameText, IsStartText}
 use Rattle.cli.specs.CurveTexts.{HasNamedTypes, OfTables}
 use Rattle.cli.specs.Explained.{IsExplanation}
-use Rattle.cli.specs.Quantities.{IsQuantityText}
-use Rattle.cli.specs.StreamTexts.{HasStream}
+use Rattle.cli.specs.StreamTexts.{HasStream, shown_quantity}
 use Rattle.cli.specs.Verdicts.{HasEnergyCode, IsListingVerdict, IsSlopeVerdict}
 use Rattle.command_line.specs.declared.commands.Quantity.TheVariants as quantity
 
@@ -61,7 +61,7 @@ PrintsVisits Shows job state v before after =
 abbrev pub HasText : Text → (Wrote : List ℕ → Type 0) → Type 0
 HasText (StartText job gro frame) Wrote = IsStartText job gro frame Wrote
 HasText (FrameText state) Wrote = IsFrameText state Wrote
-HasText (QuantityText q job state) Wrote = IsQuantityText q job state Wrote
+HasText (QuantityText q job state) Wrote = IsQuantityText (shown_quantity q) job state Wrote
 HasText (SlopeVerdict job) Wrote = IsSlopeVerdict job Wrote
 HasText (ListingVerdict job listing) Wrote = IsListingVerdict job listing Wrote
 HasText (CodeText job energy) Wrote = IsCodeText job energy Wrote

@@ -8,7 +8,6 @@ pub mod Explained
 pub mod Failures
 pub mod Performed
 pub mod Progress
-pub mod Quantities
 pub mod Refusals
 pub mod Reports
 pub mod Statuses

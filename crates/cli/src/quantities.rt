@@ -1,23 +1,21 @@
 //! The output of `energy`, `forces` and `velocities`: a quantity of a state under a job.
 
 ghost use Rattle.std.specs.Prelude.{◌≡◌, ◌-◌, ◌<◌, ◌^◌, IfErr, IfOk};
-ghost use Rattle.fallible.specs.Failures.{IfRefused};
 ghost use Rattle.command_line.specs.Views.{command_view};
 ghost use Rattle.command_line.specs.declared.commands.Command.{Command};
 ghost use Rattle.cli.specs.Actions.{action_of};
 ghost use Rattle.cli.specs.Performed.{Performs};
-ghost use Rattle.cli.specs.Quantities.{IsQuantity, IsQuantityText, LacksQuantity};
 ghost use Rattle.cli.specs.Refusals.{RefusesQuantity};
+ghost use Rattle.cli.specs.StreamTexts.{shown_quantity};
+ghost use Rattle.streams.specs.Texts.{IsQuantityText};
 
 use crate::faults::{CommandFault, write_result};
 use crate::files::{Files, read_two};
+use crate::state_streams::shown_quantity;
 use command_line::{Measured, Quantity};
-use engine::{Engine, open};
-use fallible::{Failure, Out, write_all};
-use potential::EnergyFault;
-use state::{force_lines, velocity_lines};
+use fallible::{Out, write_all};
 use std::alloc::Allocator;
-use streams::energy_line;
+use streams::quantity_text;
 
 /// Reads the job and then the state, and prints a quantity of the state. A fault of the job, the state, their engine or
 /// the code of the energy itself comes before any output.
@@ -43,38 +41,8 @@ fn quantity_of<'a, A: Allocator + Copy>(
     job: &[u8],
     state: &[u8],
 ) -> Result<Vec<u8, A>, CommandFault<'a, A>>
-    ensures is { IfOk result (λ text. IsQuantityText quantity job.now state.now (λ t. text.items ≡ t)) }
+    ensures is { IfOk result (λ text. IsQuantityText (shown_quantity quantity) job.now state.now (λ t. text.items ≡ t)) }
     ensures refused { IfErr result (RefusesQuantity quantity job.now state.now) }
 {
-    let mut engine = open(alloc, job, state)?;
-    let text = quantity_text(alloc, quantity, &mut engine);
-    drop(engine);
-    Ok(text?)
-}
-
-/// The text of a quantity of an engine's state: the line of its energy, or a line for each of its atoms.
-///
-/// `Refused`: the code of the energy itself would be too large, or the verifier rejects it. `Memory`: memory ran out.
-fn quantity_text<A: Allocator + Copy>(
-    alloc: A,
-    quantity: Quantity,
-    engine: &mut Engine<A>,
-) -> Result<Vec<u8, A>, Failure<EnergyFault<A>>>
-    ensures is { IfOk result (λ text. IsQuantity quantity engine.old text.items) }
-    ensures refused { IfErr result (λ failure. IfRefused failure (LacksQuantity quantity engine.old)) }
-{
-    match quantity {
-        Quantity::Energy => {
-            let energy = engine.energy()?;
-            Ok(energy_line(alloc, energy)?.into_bytes())
-        }
-        Quantity::Forces => {
-            let forces = engine.forces()?;
-            Ok(force_lines(alloc, &engine.state().atoms, &forces)?)
-        }
-        Quantity::Velocities => {
-            let (ring, time_step) = (engine.ring(), engine.time_step());
-            Ok(velocity_lines(alloc, &engine.state().atoms, ring, time_step)?)
-        }
-    }
+    Ok(quantity_text(alloc, shown_quantity(quantity), job, state)?)
 }

@@ -120,7 +120,7 @@ pub(crate) fn perform_each<'a, A: Allocator + Copy, F: Files, O: Out>(
 }
 
 /// The quantity of each state that the arguments name.
-fn shown_quantity(quantity: command_line::Quantity) -> Quantity
+pub(crate) fn shown_quantity(quantity: command_line::Quantity) -> Quantity
     ensures { result ≡ shown_quantity quantity }
 {
     match quantity {

@@ -14,6 +14,6 @@ mod texts;
 pub use faults::StreamFault;
 pub use laws::{one_runs_are_replayed, replays_are_one, same_streams_are_one_run};
 pub use plans::ReplayPlan;
-pub use quantities::{Quantity, QuantityTexts, energy_line};
+pub use quantities::{Quantity, QuantityTexts, quantity_text};
 pub use replays::replay_states;
 pub use streams::show_states;
