@@ -26,7 +26,9 @@ use std::thread::Threads;
 /// The bytes of a job and of a state.
 #[derive(Clone, Copy)]
 pub struct RunTexts<'a> {
+    /// The bytes of the job.
     pub job: &'a [u8],
+    /// The bytes of the state at which the run starts.
     pub state: &'a [u8],
 }
 
