@@ -156,8 +156,7 @@ impl<A: Allocator + Copy> PairLists<A> {
     }
 
     /// Prepares a frame of at most 65,536 atoms: the other functions return its pairs. `near` is work space. New lists
-    /// are in the order in which this many workers need the least time. `AllocError`: memory ran out, and no frame is
-    /// prepared.
+    /// are ordered for this many workers. `AllocError`: memory ran out, and no frame is prepared.
     pub fn prepare(
         &mut self,
         near: &mut NearPairs,
