@@ -136,7 +136,7 @@ is_close (Some bound) (Some tried) = nat_le (bound / 17) (tried / 16)
 is_close None (Some tried) = false
 is_close _ None = true
 
--- whether the bounds of both columns are
+-- whether the bounds of both columns are close to the tried ones
 abbrev pub are_close : (bounds tried : BoundsView) → Bool
 are_close b tried = is_close b.energy tried.energy && is_close b.slope tried.slope
 
@@ -186,7 +186,7 @@ abbrev pub flag_of : Column → ColumnFlagsView → Bool
 flag_of Energy f = f.energy
 flag_of Slope f = f.slope
 
--- whether no column has it
+-- whether no column has the property
 abbrev pub is_none : ColumnFlagsView → Bool
 is_none f = not f.energy && not f.slope
 

@@ -14,7 +14,7 @@ squares_of a b c = square a + square b + square c
 abbrev pub grid_square : RingBox → GridSeparation → ℕ
 grid_square b g = squares_of (g.x *ℤ pos b.x) (g.y *ℤ pos b.y) (g.z *ℤ pos b.z)
 
--- the sum of the squares of the integers a, b and c is in the range of floats near it
+-- integers so small that the sum of their squares is in the range of floats near it
 pub record AreShort (a b c : ℤ) : Type 0 where
   pub x : unsigned_abs a ≤ 2 ^ 90
   pub y : unsigned_abs b ≤ 2 ^ 90
